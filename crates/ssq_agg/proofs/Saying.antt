@@ -40,12 +40,12 @@ behind : (many : ℕ) (pair : Pair) (pairs : List Pair) → AreOnce many (pair �
 unfolding IsDistinct
 behind many pair pairs are = record { keys = are.keys.1; distinct = are.distinct.1 }
 
--- a key that is in front stands nowhere behind it
+-- a key that is in front stands nowhere after it
 none_behind : (many : ℕ) (pair : Pair) (pairs : List Pair) → AreOnce many (pair ∷ pairs) → (key : Values) → is_same key pair.0 ≡ true → lookup (is_same key) pairs ≡ None
 unfolding IsDistinct
 none_behind many pair pairs are key same = ap (λ k. lookup (is_same k) pairs) (same_is key pair.0 same) ∙ once pair.0 pairs are.distinct.0
 
--- what is said of a key by the entry in front, and by those behind it
+-- what is said of a key by the entry in front, and by those after it
 put_by : (same : Bool) (found : Option (List Total)) (totals : List Total) → (same ≡ true → found ≡ None)
     → option_or (said_if found false) (if same then Some (Some (totals_bytes totals)) else None) ≡ said_if (if same then Some totals else found) false
 put_by true found totals none = ap (λ o. option_or (said_if o false) (Some (Some (totals_bytes totals)))) (none refl)
@@ -120,7 +120,7 @@ gone_more closed at group inside is before after pushed was =
     ∙ sym (map-append gone_entry (take at closed) (group ∷ []))
     ∙ ap (map gone_entry) (sym (one_more closed at group inside is))
 
--- The entries so far, with those of the touched groups that are left, are those of the closed groups and behind them of all that were touched.
+-- The entries so far, with those of the touched groups that are left, are those of the closed groups and after them of all that were touched.
 pub record AreEntries (closed : List Group) (touched left : List Pair) (entries : Change) : Type 0 where
   pub all : entries ++ map put_entry left ≡ map gone_entry closed ++ map put_entry touched
   pub short : All IsShortEntry entries

@@ -11,7 +11,7 @@ use Rattle.ssq_meaning.specs.declared.total.Total.TheVariants as total
 use Rattle.ssq_meaning.specs.Totals.{total_bytes}
 use Rattle.ssq_agg.specs.Readable.{IsTotalOf}
 
--- a sum behind the number of its values
+-- a sum after the number of its values
 pub sum_bytes : (count : ℕ) (sum : ℤ) → to_be_bytes w64 count ++ twos_complement sum ≡ total_bytes (total.Sum count sum)
 unfolding twos_complement
 sum_bytes count sum = refl

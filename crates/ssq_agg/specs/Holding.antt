@@ -38,7 +38,7 @@ pub record IsRead (grouping : Grouping) (entry : Entry) (found : Option Group) :
   pub some : IfSome found (IsGroupOf grouping entry)
   pub each : (group : Group) → IsGroupOf grouping entry group → found ≡ Some group
 
--- the group of one entry more, where it is one, comes behind those before
+-- the group of one entry more, where it is one, comes after those before
 abbrev pub Adds : Grouping → Entry → (before after : List Group) → Type 0
 Adds grouping entry before after = (found : Option Group) × (after ≡ before ++ option_to_list found) × IsRead grouping entry found
 
@@ -58,7 +58,7 @@ entries_at state (key ∷ keys) = cons_option (entry_at key (value_at state key)
 
 -- ---- what a state holds
 
--- The state holds these totals: behind the bytes of a key stand those of its totals, where it has some, and key and totals can be read back.
+-- The state holds these totals: after the bytes of a key stand those of its totals, where it has some, and key and totals can be read back.
 pub record Holds (grouping : Grouping) (state : State) (own : Held) : Type 0 where
   pub found : (key : Values) → IsKey grouping key → value_at state (keys_of key) ≡ option_map totals_bytes (own key)
   pub readable : (key : Values) (totals : List Total) → own key ≡ Some totals → IsReadableGroup grouping key totals

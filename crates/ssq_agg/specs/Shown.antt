@@ -35,7 +35,7 @@ shown_rows query grouping pairs = flat_map (λ pair. row_if (shown_of query grou
 abbrev pub least_fault : Bound → Grouping → Option Values → List Pair → Option Values
 least_fault query grouping own pairs = fold (λ own pair. fault_if (is_err (shown_of query grouping pair)) pair.0 own) own pairs
 
--- the rows of the groups come behind those before, and the least key that overflows is known, theirs included
+-- the rows of the groups come after those before, and the least key that overflows is known, theirs included
 pub record Shows (query : Bound) (grouping : Grouping) (pairs : List Pair) (before after : Shown) : Type 0 where
   pub rows : after.rows.items ≡ before.rows.items ++ shown_rows query grouping pairs
   pub fault : after.fault ≡ least_fault query grouping before.fault pairs

@@ -23,7 +23,7 @@ use Rattle.ssq_ast.specs.Statement.{comma, separated, order_words, order_item_wo
 pub with_words-append : (printed : Printed) (xs ys : Words) → with_words printed (xs ++ ys) ≡ with_words (with_words printed xs) ys
 with_words-append printed xs ys = fold-append with_word printed xs ys
 
--- parts with commas between them: the first, and then each other behind a comma
+-- parts with commas between them: the first, and then each other after a comma
 pub separated-led : {A : Type 0} (written : A → Words) (x : A) (xs : List A) → separated (map written (x ∷ xs)) ≡ written x ++ flat_map (λ y. comma ∷ written y) xs
 separated-led written x [] = sym (append-nil (written x))
 separated-led written x (y ∷ xs) = ap (λ ws. written x ++ comma ∷ ws) (separated-led written y xs)
@@ -34,7 +34,7 @@ behind {print = print} before xs ys whole = subst (WholeAs print) (sym (with_wor
 
 pub ruleset printing = (behind, separated-led)
 
--- a part of a list was added, and then those behind it
+-- a part of a list was added, and then those after it
 pub each_more : {A : Type 0} (written : A → Words) (parts : List A) (i : ℕ) (part : A) {now with_part last : Print} → i < length parts → part ≡ get_or parts i part →
     Adds now (written part) with_part → Adds with_part (flat_map written (drop (i + 1) parts)) last → Adds now (flat_map written (drop i parts)) last
 each_more written parts i part within is first rest before held =

@@ -250,7 +250,7 @@ only e = more_of-Expr e end_of-Expr
 abbrev pub first : List ℕ → ℕ
 first places = slice_index places 0
 
--- the places from behind these words on
+-- the places from after these words on
 abbrev pub behind : Words → List ℕ → List ℕ
 behind front places = drop (length front) places
 

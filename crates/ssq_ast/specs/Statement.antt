@@ -167,7 +167,7 @@ join_words None = []
 join_words (Some join) =
     kind_words join.kind join.has_word ++ keyword key.Join ∷ name join.stream ∷ keyword key.On ∷ words join.on
 
--- a condition behind its keyword
+-- a condition after its keyword
 abbrev pub condition_words : Keyword → Option Written → Words
 condition_words k None = []
 condition_words k (Some condition) = keyword k ∷ words condition
@@ -263,7 +263,7 @@ item_tree (bare_item column) places = let made = column_tree column places in it
 item_tree (named_item value label) places =
     item_of (tree value places) (first places) (ident label (drop 1 (behind (words value) places)))
 
--- a condition behind its keyword
+-- a condition after its keyword
 abbrev pub condition_tree : Written → List ℕ → Condition
 condition_tree condition places = record { at = first places; value = tree condition (drop 1 places) }
 

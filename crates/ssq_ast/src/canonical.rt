@@ -230,7 +230,7 @@ fn print_join(printer: &mut Printer, join: &Option<Join>)
     }
 }
 
-/// Prints a condition behind its keyword, where it stands.
+/// Prints a condition after its keyword, where it stands.
 fn print_condition(printer: &mut Printer, word: Keyword, condition: &Option<Condition>)
     ensures { Adds printer.old
         (spec.condition_words word (option_map (λ condition. expression.plain condition.value) condition.now)) printer.new }
@@ -321,7 +321,7 @@ fn print_back(printer: &mut Printer, select: &Select)
 ///
 /// Its words stand in order, keywords in capitals, `<>` for `!=`, numbers by their value and texts as they were read,
 /// with no INNER, OUTER or ASC, with no AS where an item is the bare column of that name, and with brackets exactly
-/// where without them it would be read as another query. One space stands between two words, but none behind `(`, none
+/// where without them it would be read as another query. One space stands between two words, but none after `(`, none
 /// around `.`, none before `)`, `,` and `;`, and none between WINDOW, COUNT, SUM, MIN or MAX and `(`.
 #[tactic(auto, using(crate::proofs::Printed::printing), unfolding(crate::specs::Canonical::canonical))]
 pub fn text(alloc: Global, query: &Query) -> Result<Text, AllocError>

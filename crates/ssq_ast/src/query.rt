@@ -63,7 +63,7 @@ pub enum Item {
         column: ColumnRef,
         /// The place of its first token, brackets included.
         at: usize,
-        /// Where its name is written: behind AS where that stands, and else in the column.
+        /// Where its name is written: after AS where that stands, and else in the column.
         named_at: usize,
     },
     /// `v + 1 AS w`

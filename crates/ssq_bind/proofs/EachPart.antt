@@ -67,7 +67,7 @@ module _ (rows : Scope) where
     abbrev FirstHas : List Expr → Type 0
     FirstHas es = IfSome (slice_get (flat_map (λ e. listed (time_bound names e)) es) 0) Q
 
-    -- a BETWEEN that may stand there is the bound; else the first behind it is
+    -- a BETWEEN that may stand there is the bound; else the first after it is
     value_has : (value : Expr) (parts : List Conjunct) → P value → AreNone (BoundRule (between_at value) (is_misplaced rows false value))
         → AreNone (BoundFaults rows (seen_by (between_at value) false) parts) → (AreNone (BoundFaults rows false parts) → FirstHas (map value_in parts)) → FirstHas (value ∷ map value_in parts)
     unfolding time_bound between_at is_misplaced

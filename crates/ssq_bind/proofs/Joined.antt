@@ -58,7 +58,7 @@ unfolding key_pair time_bound
 pair_is_no_bound scope (expr.Between' p (only a) at q (only b) r (only c)) pair is = absurd cc
 pair_is_no_bound scope _ pair is = refl
 
--- a key equality, behind those in front of it
+-- a key equality, after those in front of it
 pub pair_put : {A E : Type 0} (r : Result A E) (context : Context) (parts : Parts) (keys : List KeyPair) (e : Expr) (found : Option KeyPair) (pair : KeyPair) → found ≡ key_pair context.scope e → found ≡ Some pair →
     OnOk r (keys ≡ parts.keys ++ pair ∷ []) → OnOk r (record { keys = keys; bounds = parts.bounds; rest = parts.rest } ≡ parts_with context parts (e ∷ []))
 pair_put (Ok a) context parts keys e found pair same is pushed =

@@ -143,7 +143,7 @@ module _ (aggregates kinds : List ColType) where
   none_has o true None x = tt
   none_has o true (Some a) x = tt
 
-  -- a span behind an operator: a time in front of `+` and `-` is shifted, and nothing else has a type
+  -- a span after an operator: a time in front of `+` and `-` is shifted, and nothing else has a type
   span_has : (o : BinaryOp) (time divided : Bool) (a : Option ColType) (x y : Typed) (by : ℤ) → is_kind type.Timestamp a ≡ time → Has a x →
       Has (if is_sum o && true && time then Some type.Timestamp else if_divides divided (of_one (λ pair. operator_kind (operands_of o) pair.0 pair.1) (together {B = ColType} a None))) (shifted_or (shift_by o by) x (binary_value o x y))
   span_has op.Add true divided a x y by is p = shifted_has a x by p is
@@ -156,7 +156,7 @@ module _ (aggregates kinds : List ColType) where
   no_shift true time = refl
   no_shift false time = refl
 
-  -- anything else behind it
+  -- anything else after it
   other_has : (o : BinaryOp) (time divided : Bool) (a b : Option ColType) (x y : Typed) → Has a x → Has b y →
       Has (if is_sum o && false && time then Some type.Timestamp else if_divides divided (of_one (λ pair. operator_kind (operands_of o) pair.0 pair.1) (together a b))) (binary_value o x y)
   other_has o time divided a b x y p q = rw (no_shift (is_sum o) time) (binary_has o divided a b x y p q)

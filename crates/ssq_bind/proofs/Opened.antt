@@ -59,11 +59,11 @@ module _ (context : Context) where
   counted w _ = refl
 
   module _ (w : Within) where
-    -- how many were found once those of an expression stand behind the others
+    -- how many were found once those of an expression stand after the others
     grown : (old mid : List Aggregate) (x : Expr) → mid ≡ old ++ aggregates_of context w x → length mid ≡ length old + count w x
     grown old mid x is = ap length is ∙ length_both old (aggregates_of context w x) ∙ (λ i. length old + counted w x i)
 
-    -- what is made of two operands, or of the left one and a shift; the right one is behind the aggregates of the left one
+    -- what is made of two operands, or of the left one and a shift; the right one is after the aggregates of the left one
     pub two_values : (old mid : List Aggregate) (o : BinaryOp) (a b : Expr) (s : Option ℤ) (x y t : Typed) → mid ≡ old ++ aggregates_of context w a
         → s ≡ shift_of o b → x ≡ value_of context w (length old) a → y ≡ value_of context w (length mid) b → t ≡ shifted_or s x (binary_value o x y)
         → t ≡ shifted_or (shift_of o b) (value_of context w (length old) a) (binary_value o (value_of context w (length old) a) (value_of context w (length old + count w a) b))

@@ -104,7 +104,7 @@ rest_by (Some pair) bound value = []
 abbrev pub rest_in : Context → Expr → List Typed
 rest_in context e = rest_by (key_pair context.scope e) (time_bound context.scope e) (row_value context e)
 
--- these parts of ON, behind those that stand in front of them
+-- these parts of ON, after those that stand in front of them
 abbrev pub parts_with : Context → Parts → List Expr → Parts
 parts_with context parts es = record {
   keys = parts.keys ++ flat_map (keys_in context) es;

@@ -6,7 +6,7 @@ abbrev pub listed : {A : Type 0} → Option A → List A
 listed None = []
 listed (Some a) = a ∷ []
 
--- what each element gives, behind what was found in front of them
+-- what each element gives, after what was found in front of them
 unfoldable pub gathered : {A B : Type 0} → (A → List B) → List B → List A → List B
 gathered f found [] = found
 gathered f found (x ∷ xs) = gathered f (found ++ f x) xs

@@ -85,7 +85,7 @@ unfoldable pub outputs_of : Context → Within → ℕ → List Item → List Ou
 outputs_of context w before [] = []
 outputs_of context w before (x ∷ xs) = output_of context w before x ∷ outputs_of context w (before + length (item_aggregates context w x)) xs
 
--- the outputs behind others, and behind the aggregates that were found in front of them
+-- the outputs after others, and after the aggregates that were found in front of them
 unfoldable pub shown : Context → Within → List Output → List Aggregate → List Item → List Output
 shown context w outputs found [] = outputs
 shown context w outputs found (x ∷ xs) = shown context w (outputs ++ output_of context w (length found) x ∷ []) (found ++ item_aggregates context w x) xs

@@ -45,7 +45,7 @@ abbrev pub width : Option Source → ℕ
 width None = 0
 width (Some source) = length source.columns
 
--- a column of the right stream, which has so many, behind the columns of the left one
+-- a column of the right stream, which has so many, after the columns of the left one
 abbrev pub behind : ℕ → ℕ → ℕ → ℕ
 behind left right index = if nat_lt index right then left + index else 0
 
@@ -132,7 +132,7 @@ binary_value op.Remainder a b = arithmetic_value arithmetic.Remainder a b
 abbrev pub between_value : Typed → Typed → Typed → Typed
 between_value a b c = typed.Between' tt (box.only a) tt (box.only b) tt (box.only c)
 
--- a span behind `+`, or taken from what stands in front of `-`
+-- a span after `+`, or taken from what stands in front of `-`
 abbrev pub shift_by : BinaryOp → ℤ → Option ℤ
 shift_by op.Add span = Some span
 shift_by op.Subtract span = Some (int_wrapping_neg w64 span)
@@ -149,7 +149,7 @@ shift_by op.Multiply span = None
 shift_by op.Divide span = None
 shift_by op.Remainder span = None
 
--- by how much an operator shifts the time in front of it, where a span stands behind it
+-- by how much an operator shifts the time in front of it, where a span stands after it
 unfoldable pub shift_of : BinaryOp → Expr → Option ℤ
 shift_of o (expr.Interval span at) = shift_by o span.micros
 shift_of o _ = None

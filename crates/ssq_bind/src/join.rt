@@ -133,7 +133,7 @@ fn time_bound(scope: &Scope, value: &Expr) -> Option<TimeBound>
     }
 }
 
-/// Puts what ON joins by AND behind what stands in front of it.
+/// Puts what ON joins by AND after what stands in front of it.
 fn put(alloc: Global, context: &Context, parts: &mut Parts, value: &Expr) -> Result<(), AllocError>
     ensures { OnOk result (parts.new ≡ parts_with context.now parts.old (value.now ∷ [])) }
 {

@@ -95,7 +95,7 @@ fn item_value(
     }
 }
 
-/// Puts an item's column of the result behind those that stand in front of it.
+/// Puts an item's column of the result after those that stand in front of it.
 fn put_output(
     alloc: Global,
     context: &Context,
@@ -117,7 +117,7 @@ fn put_output(
     })
 }
 
-/// The columns of the result. The aggregates of SELECT go behind those that were found.
+/// The columns of the result. The aggregates of SELECT go after those that were found.
 #[tactic(auto, unfolding(crate::specs::Shapes::shown, crate::specs::Lists::gathered))]
 pub(crate) fn outputs_of(
     alloc: Global,
@@ -136,7 +136,7 @@ pub(crate) fn outputs_of(
     Ok(outputs)
 }
 
-/// What groups must meet. Its aggregates go behind those of SELECT.
+/// What groups must meet. Its aggregates go after those of SELECT.
 pub(crate) fn having_of(
     alloc: Global,
     context: &Context,

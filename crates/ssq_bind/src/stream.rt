@@ -67,7 +67,7 @@ fn schema_of(alloc: Global, stream: &ssq_ast::Stream) -> Result<Schema, AllocErr
     Ok(Schema::new(columns.into_vec(), event))
 }
 
-/// Puts a stream behind those that are read already, where it is declared.
+/// Puts a stream after those that are read already, where it is declared.
 pub(crate) fn list(
     alloc: Global,
     streams: &mut Sequence<Stream>,

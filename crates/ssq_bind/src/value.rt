@@ -150,7 +150,7 @@ fn shift_by(op: BinaryOp, span: i64) -> Option<i64>
     }
 }
 
-/// By how much an operator shifts the time in front of it, where a span stands behind it.
+/// By how much an operator shifts the time in front of it, where a span stands after it.
 #[tactic(auto, using(ssq_ast::proofs::Boxes::boxes), unfolding(crate::specs::Value::shift_of))]
 pub(crate) fn shift_of(op: BinaryOp, right: &Expr) -> Option<i64>
     ensures { result ≡ shift_of op right.now }
@@ -172,7 +172,7 @@ fn function_of(function: ssq_ast::Function) -> Function
     }
 }
 
-/// The number of an aggregate, once it stands behind those that were found. On rows there is none.
+/// The number of an aggregate, once it stands after those that were found. On rows there is none.
 fn numbered(
     within: Within,
     found: &mut Sequence<Aggregate>,
@@ -221,7 +221,7 @@ fn literal(value: &Expr) -> Result<Typed, AllocError>
     Ok(Typed::Constant(literal))
 }
 
-/// The expression whose names are bound. Its aggregates go behind those that were found in front of it.
+/// The expression whose names are bound. Its aggregates go after those that were found in front of it.
 #[cycle(bound)]
 #[tactic(auto, using(ssq_ast::proofs::Boxes::boxes), unfolding(crate::specs::Value::value_of, crate::specs::Value::aggregates_of))]
 pub(crate) fn value_of(

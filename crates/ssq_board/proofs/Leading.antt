@@ -75,7 +75,7 @@ due_why c t f = by c.front.stop refl
     by (Some g) is = inl (ap (λ (x : Option Cause). if is_stopped x then None else board.due_stop (set (tasks_of t.kind c) t.number (place.Back f))) is)
 
 module _ (told : Type 0) (job : Job) where
-  -- the Stop behind a report
+  -- the Stop after a report
   pub report_stops : (start : machine.State) (disk : History) (c : Core) (n : Desk) (pre : List Event) (o : Option Cause) → ((o ≡ None) ⊎ (c.front.stop ≡ None))
       → machine.Leads told job start pre (record { disk = disk; desk = Some n; life = life_of c.front.stop })
       → machine.Leads told job start (pre ++ stops o) (record { disk = disk; desk = Some n; life = life_of (or_stop c.front.stop o) })

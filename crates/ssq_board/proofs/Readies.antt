@@ -56,7 +56,7 @@ tasks_are c =
 pub none_of_tasks : (c : Core) (z : Ready) → is_of_tasks z ≡ false → ready_tasks c ≡ z → ⊥
 none_of_tasks c z other e = true≢false (sym (tasks_are c) ∙ ap is_of_tasks e ∙ other)
 
--- behind the tests on tasks
+-- after the tests on tasks
 tasks_done : (c : Core) (z : Ready) → ready_tasks c ≡ z → not c.front.fresh ≡ false → (ready.Task ≡ z → ⊥) → (ready.Idle ≡ z → ⊥) → (not c.front.written ≡ false) × ((if c.front.settled then ready.Commit else ready.Sync) ≡ z)
 tasks_done c z e fresh no_task no_idle =
     let b = past (list_any is_waiting c.maps) _ _ z (first_not (not c.front.fresh) _ _ z fresh e) no_task in

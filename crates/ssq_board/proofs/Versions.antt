@@ -225,7 +225,7 @@ module _ (told : Type 0) (job : Job) (r : Scope) (next : Cuts → ℕ → Bool) 
           some_none : Some f ≡ None → ⊥
           some_none e = cc
 
-      -- The publishing failed: the report misses it, and the Stop behind it may have tried it.
+      -- The publishing failed: the report misses it, and the Stop after it may have tried it.
       missed_by : (old new : History) → c.front.stop ≡ None → Tries (publishes (name.Delta p e) ((job.course d.cuts).delta p e)) old new
           → Follows told job r next terms old c d (entry.Missed (reduce e p)) new (after r c (entry.Missed (reduce e p))) k
       missed_by old new run moves =

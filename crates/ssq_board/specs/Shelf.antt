@@ -79,7 +79,7 @@ pub record IsFirstShelf (files : Files) (s : Shelf) : Type 0 where
   pub claimed : s.claimed ≡ []
   pub tidy : s.tidy ≡ true
 
--- how many epochs are acknowledged: all that are committed, but for the last where names are not settled behind its commit
+-- how many epochs are acknowledged: all that are committed, but for the last where names are not settled after its commit
 abbrev pub acknowledged_in : Core → ℕ
 acknowledged_in c = if is_open c || c.front.settled then c.front.committed else c.front.committed - 1
 

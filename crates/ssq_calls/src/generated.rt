@@ -20,7 +20,7 @@ fn opened(
     }
 }
 
-/// The lines of a part, each with a line feed behind it.
+/// The lines of a part, each with a line feed after it.
 fn part(alloc: Global, inputs: &mut MemInputs, number: u32) -> Result<Vec<u8>, Fail> {
     let mut all = Vec::new(alloc);
     let mut log = opened(alloc, inputs, "g", number)??;

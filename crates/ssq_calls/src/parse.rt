@@ -227,7 +227,7 @@ fn takes_no_keyword_as_a_name(rt: HostRuntime) -> Result<(), Fail> {
     Ok(())
 }
 
-/// A repeated part, how often, and what stands before and behind all of them.
+/// A repeated part, how often, and what stands before and after all of them.
 static DEEP: [(&str, &str, usize, &str, &str); 17] = [
     ("SELECT ", "(", 64, "v", "Expected at 72"),
     ("SELECT ", "(", 65, "v", "TooDeep at 71"),

@@ -163,7 +163,7 @@ fn said(alloc: Global, entries: &[(&[u8], Option<&[u8]>)]) -> Result<Change, Fai
     Ok(draft.into_change(alloc)?)
 }
 
-/// What a change says, each key on a line, with its value behind `=` where it has one.
+/// What a change says, each key on a line, with its value after `=` where it has one.
 fn shown(alloc: Global, change: &Change) -> Result<Vec<u8>, AllocError> {
     let mut out = Vec::new(alloc);
     for (key, value) in change.iter() {

@@ -24,7 +24,7 @@ whole None = refl
 whole (Some n) = ap Some (all_behind n)
 
 module _ {A : Type 0} (test : A → Bool) where
-  -- where the first of these stands, behind so many others
+  -- where the first of these stands, after so many others
   abbrev pub first_behind : ℕ → List A → Option ℕ
   first_behind before [] = None
   first_behind before (x ∷ xs) = if test x then Some before else first_behind (before + 1) xs

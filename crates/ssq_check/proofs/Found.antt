@@ -51,7 +51,7 @@ may_none : (w : Within) → may_stand w None ≡ None
 may_none within.Row = refl
 may_none within.Group = refl
 
--- an operator with two operands, of which the right one is a span behind a time or not
+-- an operator with two operands, of which the right one is a span after a time or not
 operated : (A B Own : Faults) (shift shifted : Bool) (value : Option ColType) (r : Checked) → shift ≡ shifted → (shifted ≡ true → AreNone A) → Answers (Either (Either A B) Own) value r
     → Answers (Operated shift A B Own) (if shift then Some type.Timestamp else value) (if shifted then Ok type.Timestamp else r)
 operated A B Own true true value r same free h = (refl, free refl)

@@ -56,7 +56,7 @@ BinaryFaults o at divides right_at operands =
 abbrev pub BetweenFaults : ℕ → Option ((ColType × ColType) × ColType) → Faults
 BetweenFaults at operands = Rule cause.WrongType at (Of_one (λ triple. between_kind triple.0.0 triple.0.1 triple.1 ≡ None) operands)
 
--- a span behind a time breaks no rule
+-- a span after a time breaks no rule
 abbrev pub Operated : Bool → Faults → Faults → Faults → Faults
 Operated true Left Right Own cause at = Left cause at
 Operated false Left Right Own cause at = Either (Either Left Right) Own cause at

@@ -29,7 +29,7 @@ has_name name names = list_any (bytes_eq name) names
 abbrev pub with_name : List (List ℕ) → List ℕ → List (List ℕ)
 with_name names name = if has_name name names then names else names ++ name ∷ []
 
--- these names, and those of a list behind them, each once
+-- these names, and those of a list after them, each once
 unfoldable pub names_from : {A : Type 0} → (A → List ℕ) → List (List ℕ) → List A → List (List ℕ)
 names_from name seen [] = seen
 names_from name seen (x ∷ xs) = names_from name (with_name seen (name x)) xs
@@ -49,7 +49,7 @@ double_at at true = Some (record { at = at; cause = cause.DoubleName })
 abbrev pub Standing : Cause → Option ℕ → Faults
 Standing own place = Where (λ at. Rule own at (Unit {0})) place
 
--- something stands behind the first so many
+-- something stands after the first so many
 abbrev pub Past : Cause → ℕ → List ℕ → Faults
 Past own most places = Standing own (slice_get places most)
 

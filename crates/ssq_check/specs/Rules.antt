@@ -89,7 +89,7 @@ is_sum op.Add = true
 is_sum op.Subtract = true
 is_sum _ = false
 
--- a span behind `+` or `-` after a time
+-- a span after `+` or `-` after a time
 abbrev pub is_shift : BinaryOp → Option ColType → Expr → Bool
 is_shift o left right = is_sum o && is_interval right && is_kind type.Timestamp left
 

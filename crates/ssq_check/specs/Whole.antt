@@ -66,7 +66,7 @@ OwnFaults scope query =
     Either (ShownFaults scope (group_place query) (slice_get (shown_aggregates query) 64) query.select)
     (WordFaults query.select (group_place query))
 
--- what is broken behind the declarations
+-- what is broken after the declarations
 abbrev pub SelectFaults : Query → Faults
 SelectFaults query = Either (RowFaults (row_scope query) query.select) (OwnFaults (scope_of query) query)
 

@@ -304,7 +304,7 @@ fn place_of<P: Placed>(items: &[P], at: usize) -> Option<usize>
     }
 }
 
-/// A rule that is broken by what stands behind the first so many.
+/// A rule that is broken by what stands after the first so many.
 pub(crate) fn past<P: Placed>(cause: Cause, most: usize, items: &[P]) -> Option<BindFault>
     ensures { FirstOf (Past cause most (map P.place items.now)) result }
 {

@@ -12,7 +12,7 @@ use ssq_ast::{Condition, Expr, GroupBy, Item, Query};
 /// How many aggregates SELECT and HAVING may have together.
 const MOST_AGGREGATES: usize = 64;
 
-/// The places of the aggregates that stand in no other, behind others.
+/// The places of the aggregates that stand in no other, after others.
 #[tactic(auto, using(crate::proofs::Tallied::counts_none), unfolding(crate::specs::Shown::aggregates))]
 fn with_aggregates(value: &Expr, tally: Tally) -> Tally
     ensures { Counts tally (aggregates value.now) result }

@@ -139,7 +139,7 @@ fn check_own(alloc: Global, scope: &Scope, query: &Query) -> Result<Option<BindF
     Ok(sooner(shown, words))
 }
 
-/// The first fault behind the declarations. `names` are those of rows at first, and then those of groups too.
+/// The first fault after the declarations. `names` are those of rows at first, and then those of groups too.
 fn check_select(
     alloc: Global,
     query: &Query,

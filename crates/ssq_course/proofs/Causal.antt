@@ -124,7 +124,7 @@ none_of : {A : Type 0} → (x : Option A) → is_some x ≡ false → x ≡ None
 none_of None is = refl
 none_of (Some x) is = cc
 
--- between an offset and one not behind it there is no line
+-- between an offset and one not after it there is no line
 no_lines : (from to : ℕ) (lines : List Line) → to ≤ from → lines_between from to lines ≡ []
 no_lines from to lines le = ap (λ (m : ℕ). take m (drop from lines)) (let none : to - from ≡ 0 = omega (arith, le) in none)
 

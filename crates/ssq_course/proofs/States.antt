@@ -140,7 +140,7 @@ module _ (laws : RowLaws) where
     abbrev query : Bound
     query = s.job.bound
 
-    -- the rows that were accepted before epoch e, those of partition p, and the watermark behind them
+    -- the rows that were accepted before epoch e, those of partition p, and the watermark after them
     abbrev rows : List FedRow
     rows = accepted query (parts_in s) (cuts_of cuts) e
 

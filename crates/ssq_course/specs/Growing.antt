@@ -5,7 +5,7 @@ use Rattle.ssq_meaning.specs.Parts.{AreGrown}
 use Rattle.ssq_core.specs.Course.{Job}
 use Rattle.ssq_course.specs.Setting.{Setting, job_of}
 
--- The same query, with its work divided in the same way, over the same logs, each of which has as many lines as before or more behind them.
+-- The same query, with its work divided in the same way, over the same logs, each of which has as many lines as before or more after them.
 pub record HasGrown (s longer : Setting) : Type 0 where
   pub job : s.job ≡ longer.job
   pub lines : AreGrown s.lines longer.lines

@@ -60,7 +60,7 @@ CanHoldBy (Join joining) s cuts n = HasFewCells s.job.bound joining × CoverFewL
 abbrev pub CanHold : Setting → Cuts → ℕ → Type 0
 CanHold s cuts n = CanHoldBy s.job.bound.shape s cuts n
 
--- The states of the first n epochs, and what these epochs change, have a spelling: keys ascend, keys and values are behind lengths in four
+-- The states of the first n epochs, and what these epochs change, have a spelling: keys ascend, keys and values are after lengths in four
 -- bytes, and entries are counted in eight.
 pub record AreStates (s : Setting) (cuts : Cuts) (n : ℕ) : Type 0 where
   pub states : (p e : ℕ) → e ≤ n → IsState (state_at s cuts p e)

@@ -28,7 +28,7 @@ pub fn files_say_their_course()
     ensures { FilesSayTheirCourse }
 {}
 
-/// The law of logs that grow: a checkpoint that stands over some logs stands over the same logs with more lines behind, whatever their end was
+/// The law of logs that grow: a checkpoint that stands over some logs stands over the same logs with more lines after, whatever their end was
 /// taken to be; and so it is for one that stands or is empty.
 pub fn checkpoints_stand_as_logs_grow()
     ensures stands { StaysAsLogsGrow Stands }

@@ -2,7 +2,7 @@
 //!
 //! The definitions are in `specs/`: `Setting` is a query with how its work is divided, over its logs; `course_of` what its files hold
 //! for some cuts of these, those of the state included; `job_of` that, with which cut may follow; `HasGrown` that the logs have more lines
-//! behind. Their laws are the contracts of functions that do nothing.
+//! after. Their laws are the contracts of functions that do nothing.
 #![tactic(auto)]
 
 mod law;

@@ -126,7 +126,7 @@ module _ (is_held : Values → Bool) (done : List FedRow) (row : FedRow) where
 
 -- ---- what is said
 
--- what is said of a key behind one row more, whose key was known or not
+-- what is said of a key after one row more, whose key was known or not
 flags : (known same held has : Bool) (said : Option (Option (List ℕ))) → (same ≡ true → (held || has) ≡ known)
     → (if known then said_if (not held && has) said else (if same then Some (Some []) else said_if (not held && has) said)) ≡ said_if (not held && (has || same)) said
 flags true false true has said is = refl

@@ -24,7 +24,7 @@ first_among is_held earlier (row ∷ rows) =
 
 -- ---- a row more
 
--- A row whose key is known changes nothing and is not shown. The key of each other row is kept, with nothing behind it, and the row is shown.
+-- A row whose key is known changes nothing and is not shown. The key of each other row is kept, with nothing after it, and the row is shown.
 abbrev pub TakesIf : (is_known : Bool) → FedRow → (before after : Change) → (shown more : List Values) → Type 0
 TakesIf true row before after shown more = (after ≡ before) × (more ≡ shown)
 TakesIf false row before after shown more = IsToldAt (keys_of row.key) (Some []) before after × (more ≡ shown ++ row.values ∷ [])

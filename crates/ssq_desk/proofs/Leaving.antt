@@ -39,7 +39,7 @@ mapped_at f [] i a here = absurd (some-ne-none a (sym here))
 mapped_at f (x ∷ l) zero a here = ap (λ y. some (f y)) (some-injective x a here)
 mapped_at f (x ∷ l) (suc i) a here = mapped_at f l i a here
 
--- what holds of each of them, and of the places behind them
+-- what holds of each of them, and of the places after them
 each_place : {A B : Type 0} (f : A → B) (P : ℕ → Option B → Type 0) (l : List A) → ((i : ℕ) → length l ≤ i → P i None) → ((i : ℕ) (a : A) → get_elem? l i ≡ some a → P i (Some (f a))) → (i : ℕ) → P i (slice_get (map f l) i)
 each_place f P [] behind each i = behind i (omega arith)
 each_place f P (x ∷ l) behind each zero = each 0 x refl

@@ -30,7 +30,7 @@ brings None None = true
 brings _ fault = false
 
 module _ {D O : Type 0} where
-  -- How the result of an out task is taken. Where it brought its files and the desk runs, the rows are published behind its report, or the
+  -- How the result of an out task is taken. Where it brought its files and the desk runs, the rows are published after its report, or the
   -- disk failed at that; else there is its report alone, with the Stop that it brings about.
   abbrev pub IsOut : Bool → Shown D O → Shown D O → TaskId → Option Cause → Result (Unit {0}) Cause → Type 0 → Type 0
   IsOut true s n t fault result risen = OnOk result (n ≡ did s n.disk (entry.Report t fault ∷ entry.OutFile s.core.front.committed ∷ []))

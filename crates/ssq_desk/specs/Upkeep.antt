@@ -42,7 +42,7 @@ first_missing files names = find (λ q. is_none (files q)) names
 abbrev pub IsNotFound : (tells : Type 0) → Files → List Name → Name → Type 0
 IsNotFound tells files names q = (is_among names q ≡ true) × (tells → first_missing files names ≡ Some q)
 
--- The files that make the state of a partition at a version: the newest snapshot below it, where there is one, and the deltas behind that.
+-- The files that make the state of a partition at a version: the newest snapshot below it, where there is one, and the deltas after that.
 abbrev pub files_for : (p v : ℕ) → Option ℕ → List Name
 files_for p v None = deltas_from p 0 (v + 1)
 files_for p v (Some below) = name.Snapshot p below ∷ deltas_from p (below + 1) (v - below)

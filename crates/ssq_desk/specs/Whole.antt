@@ -26,7 +26,7 @@ use Rattle.ssq_desk.specs.Closing.{AreTold, HasFaulty}
 use Rattle.ssq_desk.specs.Contents.{Holds, keeping_in}
 use Rattle.ssq_desk.specs.Tasks.{IsViewOf}
 
--- These are the plans of all planned epochs: those that were opened, and the others behind them. Their lines end where the cuts say, which
+-- These are the plans of all planned epochs: those that were opened, and the others after them. Their lines end where the cuts say, which
 -- begin where the parts do and do not fall; and their watermarks can be printed.
 pub record ArePlans (owned : Type 0) (opened : List Plan) (s : Setting) (cuts : Cuts) (planned : ℕ) (plans : List Plan) : Type 0 where
   pub count : length plans ≡ planned

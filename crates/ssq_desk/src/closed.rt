@@ -143,7 +143,7 @@ fn lines_in(room: Vec<SeenBy>, bound: &Bound, times: &[Option<i64>]) -> Sequence
     Sequence::from_vec(lines)
 }
 
-/// Whether the last committed epoch is acknowledged: names are settled behind its commit.
+/// Whether the last committed epoch is acknowledged: names are settled after its commit.
 fn is_told(front: Front) -> bool
     ensures { result ≡ (nat_lt front.committed front.planned || front.settled) }
 {

@@ -69,7 +69,7 @@ fn discard<D: Disk, O: Opening>(
 
 impl<'a, D: Disk, L: Log> Desk<'a, D, L> {
     /// Takes the result of the out task that was handed out. Where it brought its files and the desk runs, the rows of the epoch are
-    /// published behind its report. Answers the Stop that it brings about.
+    /// published after its report. Answers the Stop that it brings about.
     ///
     /// The commit is kept, and published by `commit` once the rows are settled. Of a desk that was stopped nothing is published, and what
     /// is left of files that were not sealed is taken away.

@@ -32,7 +32,7 @@ use std::alloc::{AllocError, Global};
 pub struct UpkeepTask<S> {
     pub partition: u32,
     pub version: u32,
-    /// The newest snapshot below the version, where there is one, and the deltas behind it up to the version.
+    /// The newest snapshot below the version, where there is one, and the deltas after it up to the version.
     pub files: Vec<(Name, Bytes)>,
     pub stage: S,
 }
@@ -162,7 +162,7 @@ fn with_deltas<D: Disk, O: Opening>(
     Ok(files)
 }
 
-/// A snapshot of a partition and the deltas behind it, up to so many versions.
+/// A snapshot of a partition and the deltas after it, up to so many versions.
 fn read_behind<D: Disk, O: Opening>(
     alloc: Global,
     ledger: &mut Ledger<D, O>,

@@ -12,7 +12,7 @@ use Rattle.ssq_board.proofs.Lists.{nat_lt-is, nat_lt-not}
 use Rattle.ssq_board.proofs.Telling.{Runs}
 use Rattle.ssq_drive.specs.Driven.{brings_due}
 
--- Between so many planned epochs and so many: the cuts so far are as they were, and behind them each part goes on from cut to cut to what
+-- Between so many planned epochs and so many: the cuts so far are as they were, and after them each part goes on from cut to cut to what
 -- was found of it, by no more lines than the cap. Each epoch has lines; but the last may have none, where the query closes.
 pub record AreNextCuts (r : Scope) (closing : Bool) (from to : ℕ) (old new : Cuts) : Type 0 where
   pub kept : (e : ℕ) → e ≤ from → new e ≡ old e
@@ -49,7 +49,7 @@ module _ (r : Scope) (closing : Bool) (from : ℕ) (old : Cuts) where
   abbrev HaveLines : ℕ → Cuts → Type 0
   HaveLines to cuts = (e : ℕ) → from ≤ e → e < to → is_behind (cuts e) r.available ≡ true
 
-  -- The last epoch has none, all before it have, and no other comes behind it.
+  -- The last epoch has none, all before it have, and no other comes after it.
   record EndsWithout (c : Core) (cuts : Cuts) : Type 0 where
     pub closes : closing ≡ true
     pub before : (e : ℕ) → from ≤ e → e + 1 < c.front.planned → is_behind (cuts e) r.available ≡ true

@@ -30,7 +30,7 @@ parts_count stream (suc n) =
     let before = parts_count stream n in
     let more = length-append (first_parts stream n) (end ∷ []) in omega (arith, before, more)
 
--- the parts of a stream from one on, behind those before it, and then those of the streams after it
+-- the parts of a stream from one on, after those before it, and then those of the streams after it
 parts_begin : (stream at left : ℕ) (counts : List ℕ) (lines : List (List Line)) → length lines ≡ left + length (begins_from (stream + 1) counts)
     → first_parts stream at ++ begin_all (parts_from stream at left counts lines) ≡ first_parts stream (at + left) ++ begins_from (stream + 1) counts
 unfolding parts_from

@@ -1,4 +1,4 @@
--- All of upkeep: snapshots one after another, files that are removed one after another, and names that are settled behind both.
+-- All of upkeep: snapshots one after another, files that are removed one after another, and names that are settled after both.
 use Rattle.std.proofs.Common.{◌≡◌, ◌<◌, ◌≤◌, ℕ, Bool, true, false, List, [], ◌∷◌, None, Result, Ok, Err, IfErr, OnOk, OnErr, sym, refl, ap, ◌∙◌, subst, inl, inr}
 use Rattle.ssq_outside.specs.declared.name.Name.{Name}
 use Rattle.ssq_outside.specs.Faults.{Rises}

@@ -100,7 +100,7 @@ module _ (r : Scope) (c : Core) (t : TaskId) (before now : ℕ) (sound : IsSound
       record { running = may.0; less = none_left r c n may.0 refl; rest = rests n (front_here mid n refl refl refl (work_here r c t f rest.here)) (inr refl); cause = why }
 
 module _ {D O : Type 0} where
-  -- entries behind a claim
+  -- entries after a claim
   behind : (old mid new : Shown D O) (t : TaskId) (es : List Entry) → mid ≡ did old old.disk (entry.Claim t ∷ []) → new ≡ did mid new.disk es → new ≡ did old new.disk (entry.Claim t ∷ es)
   behind old mid new t es claimed is =
       let more = append_assoc old.history (entry.Claim t ∷ []) es in

@@ -100,7 +100,7 @@ AreReturned tells lines available answers faults [] (new ∷ news) = ⊥
 AreReturned tells lines available answers faults (old ∷ olds) [] = ⊥
 AreReturned tells lines available answers faults (old ∷ olds) (new ∷ news) = IsReturned tells lines available answers faults old new × AreReturned tells lines available answers faults olds news
 
--- The plans that there were stay, and behind them each epoch ends where the next cut does: at what was found, or by the cap before it. Each
+-- The plans that there were stay, and after them each epoch ends where the next cut does: at what was found, or by the cap before it. Each
 -- has lines; but the last may have none, where the query closes.
 pub record PlansOn (closing : Bool) (first : Ends) (cap : Option ℕ) (found : List ℕ) (old new : List Plan) : Type 0 where
   pub more : List Plan
@@ -134,7 +134,7 @@ IsFaultAt s cuts e (Some at) = fault s.job.bound (parts_in s) (offsets cuts) e �
 abbrev pub IsKeyAt : Setting → Cuts → ℕ → Values → Type 0
 IsKeyAt s cuts e key = fault s.job.bound (parts_in s) (offsets cuts) e ≡ Some (of_key key)
 
--- Behind so many epochs one more is to come, by what was found: some part has lines that they do not cover, or one without lines is due.
+-- After so many epochs one more is to come, by what was found: some part has lines that they do not cover, or one without lines is due.
 abbrev pub IsMore : Setting → Cuts → (found : List ℕ) → ℕ → Type 0
 IsMore s cuts found e = (is_behind (cuts e) found ≡ true) ⊎ (due_at s cuts e ≡ true)
 
@@ -171,7 +171,7 @@ abbrev pub Ended : Type 0
 Ended = Result NextRound Stopped
 
 -- How a round went, whatever the disk tells: these are its plans in the end, the epochs that it told are the first ones that were not
--- committed, of which no line is a fault where disk and logs tell what they hold, and it is over or stopped at an epoch behind them, for a key
+-- committed, of which no line is a fault where disk and logs tell what they hold, and it is over or stopped at an epoch after them, for a key
 -- only where that is told. At most one epoch is planned and not told, the last: an epoch is planned only where each before it is committed and
 -- acknowledged, and what is acknowledged is told.
 pub record RoundWent (tells owned : Type 0) (s : Setting) (logs_count : ℕ) (r : Scope) (found : Opened) (files : Files) (disk disk_now logs : ℕ) (plans : List Plan) (told : List Told) (end : Ended) : Type 0 where

@@ -109,7 +109,7 @@ fn keep_up<'a, D: Disk, L: Log>(alloc: Global, desk: &mut Desk<'a, D, L>) -> Res
     tidy(desk)
 }
 
-/// Upkeep behind an acknowledged epoch, where another is to be planned.
+/// Upkeep after an acknowledged epoch, where another is to be planned.
 pub(crate) fn keep_between<'a, D: Disk, L: Log>(alloc: Global, desk: &mut Desk<'a, D, L>)
     requires rest { IsAtRest desk.old.core }
     ensures driven { IsDriven D.faults (HasDamaged D.tells L.tells D.history L.lines) (closes desk.old.opening.view.bound.now) desk.old desk.new }

@@ -76,7 +76,7 @@ fn id_of<L: Log, S: Stage>(task: &Task<'_, L, S>) -> TaskId
     }
 }
 
-/// Does what is next; a task behind the gate. Answers whether there was anything.
+/// Does what is next; a task after the gate. Answers whether there was anything.
 pub(crate) fn turn<'a, D: Disk, L: Log, G: Gate>(
     alloc: Global,
     gate: &G,

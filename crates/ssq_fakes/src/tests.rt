@@ -29,7 +29,7 @@ fn gate() {
     OpenGate.at(task);
 }
 
-/// The lines of a log, each with a bar behind it.
+/// The lines of a log, each with a bar after it.
 fn read_all(alloc: Global, mut log: MemLog) -> Result<Vec<u8>, Fail> {
     let mut all = Vec::new(alloc);
     let mut line = Vec::new(alloc);

@@ -92,7 +92,7 @@ too_long : (query : Bound) (stream : ℕ) (line : Line) → nat_lt longest (leng
 unfolding row_of
 too_long query stream line long = rw long refl
 
--- a line that is cut behind its first 1,048,577 bytes is read the same
+-- a line that is cut after its first 1,048,577 bytes is read the same
 read_at-take : (query : Bound) (stream : ℕ) (line : Line) → read_at query stream (take 1048577 line) ≡ read_at query stream line
 read_at-take query stream line =
     elim (cases_lt 1048577 (length line)) [

@@ -1,4 +1,4 @@
--- Rows that are dealt, one behind the other, and those that go to the groups of a row.
+-- Rows that are dealt, one after the other, and those that go to the groups of a row.
 use Rattle.std.proofs.Common.{◌≡◌, ◌+◌, ◌-◌, ◌≤◌, ◌++◌, ℕ, ℤ, List, [], ◌∷◌, Option, Some, None, Result, Ok, Err, arith, refl, ap, ap₂, sym, ◌∙◌, subst, map, length, take, drop, append_assoc, length-append}
 use Rattle.std.specs.Prelude.{All, IsOkAnd, IsSomeAnd, OnOk, slice_get, true}
 use Rattle.std.specs.List.{flat_map}
@@ -92,7 +92,7 @@ module _ (origin : Origin) (place : Option KeyPlace) (arguments : Values) (parts
       ∙ ap (λ rest. flat_map rows_with (take nth values) ++ rest) (append-nil (rows_with value)) in
       subst P (sym rows) (deals_more first old new (flat_map rows_with (take nth values)) (rows_with value) before is)
 
-  -- once they are dealt by each value that the row has for a part, they are by that part and those behind it
+  -- once they are dealt by each value that the row has for a part, they are by that part and those after it
   pub deals_part : (first new : List (List FedRow)) (part : GroupKey) (whole : List GroupKey) (values : List Value) (last count : ℕ) → whole ≡ part ∷ parts
       → values ≡ key_values part row → count ≡ length values → 1 ≤ count → last ≡ count - 1 → Deals first new (flat_map rows_with (take (last + 1) values))
       → Deals first new (member_rows origin place arguments (begun_with key (row_keys whole row)))
@@ -123,7 +123,7 @@ unfolding row_keys
 rows_of_key origin place arguments key row [] is = ap (λ k. member_row origin place arguments k ∷ []) (append-nil key)
 rows_of_key origin place arguments key row (part ∷ parts) is = absurd (omega (arith, is))
 
--- Cells, the arguments with a key behind them, that go on with the nth of some values: the key does, and the arguments stay.
+-- Cells, the arguments with a key after them, that go on with the nth of some values: the key does, and the arguments stay.
 pub record GoesOn (arguments : ℕ) (values : List Value) (nth : ℕ) (cells longer : Values) : Type 0 where
   pub value : Value
   pub there : slice_get values nth ≡ Some value

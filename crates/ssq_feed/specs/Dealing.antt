@@ -27,18 +27,18 @@ member_row origin place arguments key = from_origin origin (placed_member place 
 abbrev pub member_rows : Origin → Option KeyPlace → Values → List Values → List FedRow
 member_rows origin place arguments keys = map (from_origin origin) (map (placed_member place arguments) keys)
 
--- Behind what was dealt before, these rows are dealt; a state can hold each of them.
+-- After what was dealt before, these rows are dealt; a state can hold each of them.
 pub record Deals (old new : List (List FedRow)) (rows : List FedRow) : Type 0 where
   pub len : length new ≡ length old
   pub behind : (before : List FedRow) → old ≡ dealt (length old) before → new ≡ dealt (length old) (before ++ rows)
   pub fit : All IsFitRow rows
 
--- What a line gives is dealt behind what was dealt before; its row has this event time.
+-- What a line gives is dealt after what was dealt before; its row has this event time.
 pub record HasDealt (query : Bound) (origin : Origin) (bytes : Line) (old new : List (List FedRow)) (time : Option ℤ) : Type 0 where
   pub rows : List Handed
   pub gives : GivesOf query origin.stream bytes time rows
   pub deals : Deals old new (map (from_origin origin) rows)
 
--- cells that go on with the nth of these values behind their front
+-- cells that go on with the nth of these values after their front
 abbrev pub IsLonger : List Value → ℕ → (front longer : Values) → Type 0
 IsLonger values nth front longer = IsSomeAnd (slice_get values nth) (λ value. longer ≡ front ++ value ∷ [])

@@ -47,7 +47,7 @@ pub(crate) struct Dealer {
     key: Vec<u8>,
 }
 
-/// Cells that go on with one of these values behind their front, with room for so many values.
+/// Cells that go on with one of these values after their front, with room for so many values.
 fn longer(
     alloc: Global,
     room: usize,
@@ -64,7 +64,7 @@ fn longer(
     Ok(cells)
 }
 
-/// The same cells with one of these values behind them.
+/// The same cells with one of these values after them.
 fn pushed(mut cells: Vec<Value>, values: &KeyValues<'_>, nth: u32) -> Result<Vec<Value>, AllocError>
     requires { nth < length (all_of values.now) }
     ensures { IfOk result (λ longer. IsLonger (all_of values.now) nth cells.items longer.items) }
@@ -92,7 +92,7 @@ impl Dealer {
         buckets
     }
 
-    /// Puts a row into the bucket of its key's partition, behind those that are there. The only bucket is that of each key.
+    /// Puts a row into the bucket of its key's partition, after those that are there. The only bucket is that of each key.
     fn deal(&mut self, row: FedRow) -> Result<(), AllocError>
         requires { IsFitRow row }
         ensures { OnOk result (Deals self.old.buckets self.new.buckets (row ∷ [])) }
@@ -128,7 +128,7 @@ impl Dealer {
         self.deal(row)
     }
 
-    /// Deals a row to the group of a key. The cells are the arguments and, behind them, the key.
+    /// Deals a row to the group of a key. The cells are the arguments and, after them, the key.
     fn deal_member(&mut self, from: &Source<'_>, cells: Vec<Value>) -> Result<(), AllocError>
         requires span { IfSome from.now.place HasSpan }
         requires arguments { from.now.arguments ≤ length cells.items }
@@ -148,7 +148,7 @@ impl Dealer {
         self.deal(row)
     }
 
-    /// Deals a row to each of its groups whose keys begin like this, by the parts of a key that are left. The cells are the arguments and, behind
+    /// Deals a row to each of its groups whose keys begin like this, by the parts of a key that are left. The cells are the arguments and, after
     /// them, the key so far; they are cloned for each group but the last.
     pub(crate) fn deal_groups(
         &mut self,

@@ -23,7 +23,7 @@ pub struct MapTask<'a, L: Log> {
     /// The stream's place in the order of FROM, and the part of that stream, from 0.
     pub stream: u32,
     pub part: u32,
-    /// The offset of the first line, and that of the first line behind the range.
+    /// The offset of the first line, and that of the first line after the range.
     pub from: u64,
     pub to: u64,
     pub log: L,

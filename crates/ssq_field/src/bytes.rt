@@ -61,7 +61,7 @@ impl Drop for Bytes {
     }
 }
 
-/// Writes the bytes behind the first `len`.
+/// Writes the bytes after the first `len`.
 fn put_behind(few: &mut [u8; FEW], len: usize, bytes: &[u8])
     requires { len + length bytes.now ≤ 38 }
     ensures { take (len + length bytes.now) few.new ≡ take len few.old ++ bytes.now }
@@ -69,7 +69,7 @@ fn put_behind(few: &mut [u8; FEW], len: usize, bytes: &[u8])
     few[len..len + bytes.len()].copy_from_slice(bytes);
 }
 
-/// Both, one behind the other.
+/// Both, one after the other.
 fn joined(alloc: Global, front: &[u8], bytes: &[u8]) -> Result<Vec<u8>, AllocError>
     ensures { IfOk result (λ made. made.items ≡ front.now ++ bytes.now) }
 {

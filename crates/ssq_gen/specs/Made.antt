@@ -8,7 +8,7 @@ use Rattle.ssq_value.specs.declared.value.Value.TheVariants.{Int, Text, Time}
 use Rattle.ssq_json.specs.RowText.{row_text}
 use Rattle.ssq_outside.specs.Logs.{Held, Line}
 
--- the number behind x
+-- the number after x
 abbrev pub next_number : ℕ → ℕ
 next_number x = (75 * x + 74) % 65537
 

@@ -16,7 +16,7 @@ const SECOND: i64 = 1_000_000;
 /// 2024-01-01T00:00:00Z.
 const FIRST: i64 = 1_704_067_200 * SECOND;
 
-/// The number behind a line's.
+/// The number after a line's.
 fn next_number(x: u32) -> u32
     requires { x ≤ 65536 }
     ensures value { result ≡ next_number x }

@@ -50,7 +50,7 @@ stands_middle q key front back =
 
 -- ---- the rows of the keys
 
--- rows whose keys are two lists one behind the other
+-- rows whose keys are two lists one after the other
 abbrev AreSplit : List FedRow → (front back : List (List ℕ)) → Type 0
 AreSplit rows front back = (first : List FedRow) × (second : List FedRow) × (rows ≡ first ++ second) × (front ≡ map row_key first) × (back ≡ map row_key second)
 

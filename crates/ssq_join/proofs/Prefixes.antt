@@ -40,7 +40,7 @@ begins_rest (x ∷ prefix) (y ∷ key) is = by (x == y) refl is (begins_rest pre
         (found.0, λ i. one i ∷ found.1 i)
 
 module _ (apart : KeysAreApart) (count : ℕ) where
-  -- behind its side a row's bytes begin with those of a key exactly where it has that key
+  -- after its side a row's bytes begin with those of a key exactly where it has that key
   pub key_begins : (key own : Values) (place : List ℕ) → IsKeySpelled count key → IsKeySpelled count own → begins_with (keys_of key) (keys_of own ++ place) ≡ is_same key own
   key_begins key own place one other = by (begins_with (keys_of key) (keys_of own ++ place)) (is_same key own) refl refl
     where

@@ -51,7 +51,7 @@ new_bytes (x ∷ xs) row apart =
     ap (λ b. if b then Some x else find_row (row_key row) xs) (other_way (row_key x) (row_key row) (each_at (λ (other : FedRow). is_at (by_bytes (row_key x)) (row_key other) ≡ false) xs row [] apart.0))
     ∙ new_bytes xs row apart.1
 
--- ---- it stands before those behind it
+-- ---- it stands before those after it
 
 nothing_mapped : (o : Option FedRow) → option_map (row_value false) o ≡ None → o ≡ None
 nothing_mapped None is = refl
@@ -96,7 +96,7 @@ module _ (query : Bound) (joining : Joining) (row : FedRow) (own : IsKept query 
   pub fresh_more : after ≡ insert_entry by_bytes fresh key value → ((bytes : List ℕ) → value_at after bytes ≡ cond (is_at (by_bytes key) bytes) (Some value) (value_at fresh bytes)) → AreFresh query joining (rows ++ row ∷ []) after
   fresh_more put updates = record { listed = listed_more put; found = found_more updates }
 
--- its candidates are told behind those of the rows before it
+-- its candidates are told after those of the rows before it
 pub taken_more : (query : Bound) (joining : Joining) (row : FedRow) → IsKept query joining row → (was_met : FedRow → Bool) (held rows : List FedRow) (state fresh : State) → AreKept query joining was_met held state
     → AreFresh query joining rows fresh → (found now : Shown) (old new : List (List ℕ)) → AreTaken query joining held rows found old → MeetsEarlier query joining row state fresh found now old new
     → AreTaken query joining held (rows ++ row ∷ []) now new

@@ -48,7 +48,7 @@ candidates_same joining row held xs ys same =
     (IsPermutation-append_right (candidates_of joining row held) (candidates_of joining row xs) (candidates_of joining row ys)
     (IsPermutation-map (λ (other : FedRow). (row, other)) (filter (are_candidates joining row) xs) (filter (are_candidates joining row) ys) (same (are_candidates joining row)))))
 
--- behind those of the rows before come those of one more
+-- after those of the rows before come those of one more
 pub turns_more : (joining : Joining) (row : FedRow) (held rows ordered : List FedRow) (pairs more : List Pair) → AreSameRows ordered rows → IsPermutation pairs (turns joining held rows)
     → IsPermutation more (candidates_of joining row (held ++ ordered) ++ pairs) → IsPermutation more (turns joining held (rows ++ row ∷ []))
 turns_more joining row held rows ordered pairs more same taken next =

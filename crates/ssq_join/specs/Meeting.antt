@@ -49,7 +49,7 @@ pub record IsOther (query : Bound) (joining : Joining) (row other : FedRow) (met
 abbrev pub with_candidate : Joining → (row other : FedRow) → List Pair → List Pair
 with_candidate joining row other pairs = if are_candidates joining row other then (row, other) ∷ pairs else pairs
 
--- Behind the candidates so far come those of a row among others, in any order.
+-- After the candidates so far come those of a row among others, in any order.
 abbrev pub MeetsNext : Bound → Joining → (pairs : List Pair) → FedRow → (others : List FedRow) → Shown → (met : List (List ℕ)) → Type 0
 MeetsNext query joining pairs row others found met =
     (more : List Pair) × IsPermutation more (candidates_of joining row others ++ pairs) × Meets query joining more found met
@@ -58,7 +58,7 @@ MeetsNext query joining pairs row others found met =
 abbrev pub AreOthers : Bound → Joining → FedRow → (met : FedRow → Bool) → List FedRow → Type 0
 AreOthers query joining row met others = AllByRecursion (λ other. IsOther query joining row other (met other) (row_key other) (row_value (met other) other)) others
 
--- Of some entries those are met that stand in front with a beginning: whatever rows they are, behind the candidates so far come those of the row among them.
+-- Of some entries those are met that stand in front with a beginning: whatever rows they are, after the candidates so far come those of the row among them.
 abbrev pub MeetsFront : Bound → Joining → FedRow → (prefix : List ℕ) → (entries : State) → (found now : Shown) → (old new : List (List ℕ)) → Type 0
 MeetsFront query joining row prefix entries found now old new =
     (met : FedRow → Bool) (others : List FedRow) (pairs : List Pair) → front_with prefix entries ≡ map (entry_with met) others → AreOthers query joining row met others

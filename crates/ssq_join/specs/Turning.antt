@@ -33,7 +33,7 @@ pub record AreFresh (query : Bound) (joining : Joining) (rows : List FedRow) (fr
   pub listed : (ordered : List FedRow) × AreSameRows ordered rows × AreKept query joining unmet ordered fresh
   pub found : (key : List ℕ) → value_at fresh key ≡ option_map (row_value false) (find_row key rows)
 
--- Whatever rows are kept in the state, and whatever rows of the epoch came before: behind the candidates so far come those of a row among them.
+-- Whatever rows are kept in the state, and whatever rows of the epoch came before: after the candidates so far come those of a row among them.
 abbrev pub MeetsEarlier : Bound → Joining → FedRow → (state fresh : State) → (found now : Shown) → (old new : List (List ℕ)) → Type 0
 MeetsEarlier query joining row state fresh found now old new =
     (was_met : FedRow → Bool) (held earlier : List FedRow) (pairs : List Pair) → IsKept query joining row → AreKept query joining was_met held state → AreKept query joining unmet earlier fresh

@@ -25,7 +25,7 @@ fn truth_in(value: &Value) -> Option<bool>
     }
 }
 
-/// Whether all of some conditions are TRUE, evaluated from the left; none is evaluated behind a FALSE.
+/// Whether all of some conditions are TRUE, evaluated from the left; none is evaluated after a FALSE.
 #[tactic(auto, unfolding(ssq_meaning::specs::Join::all_of))]
 fn are_true(alloc: Global, conditions: &[Typed], row: &[Value]) -> Result<bool, EvalFault>
     ensures { Answers itself result (are_true conditions.now row.now) }
@@ -38,7 +38,7 @@ fn are_true(alloc: Global, conditions: &[Typed], row: &[Value]) -> Result<bool, 
         Some(true) => are_true(alloc, conditions, row),
         Some(false) => Ok(false),
         None => {
-            // What overflows behind a NULL is told.
+            // What overflows after a NULL is told.
             are_true(alloc, conditions, row)?;
             Ok(false)
         }

@@ -78,7 +78,7 @@ fn nothing_taken(alloc: Global) -> Taken
     }
 }
 
-/// Takes in one row more: its candidates among the rows before it are considered, and it stands before those behind it.
+/// Takes in one row more: its candidates among the rows before it are considered, and it stands before those after it.
 fn take_next(
     alloc: Global,
     bound: &Bound,

@@ -139,7 +139,7 @@ quoted-inside s r = ap (λ l. 34 ∷ l) (append_assoc (escape s) (34 ∷ []) r)
 pub tail_is : {x y : ℕ} {xs ys : List ℕ} → x ∷ xs ≡ y ∷ ys → xs ≡ ys
 tail_is e = ap (λ l. drop 1 l) e
 
--- behind the first quote
+-- after the first quote
 pub unquoted : (text inside s r : List ℕ) → text ≡ 34 ∷ inside → text ≡ quoted s ++ r → inside ≡ escape s ++ 34 ∷ r
 unquoted text inside s r one whole = tail_is (sym one ∙ whole ∙ quoted-inside s r)
 
@@ -156,7 +156,7 @@ quoted-plain text inside rest is each = is ∙ ap (λ l. 34 ∷ (l ++ 34 ∷ res
 
 -- ---- times
 
--- behind the seconds stands a point, and then the text has 27 bytes, or the `Z`, and then it has 20
+-- after the seconds stands a point, and then the text has 27 bytes, or the `Z`, and then it has 20
 abbrev pub HasLen : List ℕ → List ℕ → Type 0
 HasLen stamp rest =
     ((slice_index (stamp ++ rest) 19 ≡ 46) × (length stamp ≡ 27)) ⊎ ((slice_index (stamp ++ rest) 19 ≡ 90) × (length stamp ≡ 20))
@@ -263,7 +263,7 @@ after_first later (name ∷ next ∷ names) zero [] rest = refl
 after_first later (name ∷ next ∷ names) zero (value ∷ more) rest = refl
 after_first later (name ∷ names) (suc n) more rest = after_first true names n more rest
 
--- What was taken of the members so far: with any values behind them it is the text where these stand in what is left, and where the text is members, what
+-- What was taken of the members so far: with any values after them it is the text where these stand in what is left, and where the text is members, what
 -- is left is those that are left.
 pub record AreTakenSo (heads : List (List ℕ)) (kinds : List ColType) (text : List ℕ) (n : ℕ) (values : List Value) (left : List ℕ) : Type 0 where
   pub found : (more : List Value) (tail : List ℕ) → left ≡ members_text (drop n heads) more ++ tail → text ≡ members_text heads (values ++ more) ++ tail
@@ -408,7 +408,7 @@ down_fits n low = subst (FitsSigned w64) (sym (down n low)) (below_fits n low)
 counted_down : (n : ℕ) → n < 2 ^ 63 → to_z w64 (of_z w64 (negsuc 0 -ℤ to_z w64 n)) ≡ negsuc n
 counted_down n low = ap (λ z. to_z w64 (of_z w64 z)) (down n low) ∙ to_z-of_z w64 (negsuc n) (below_fits n low)
 
--- the digits behind a minus are the number's
+-- the digits after a minus are the number's
 pub below_found : (text : List ℕ) (size len : ℕ) → 1 ≤ size → size ≤ 2 ^ 63 → text ≡ decimal size ++ drop len text → (let z : ℤ = to_z w64 (of_z w64 (negsuc 0 -ℤ to_z w64 (size - 1))) in (45 ∷ text ≡ signed_decimal z ++ take (length text - len) (drop len text)) × FitsSigned w64 z)
 below_found text size len some low is =
     let n = size - 1 in
@@ -419,7 +419,7 @@ below_found text size len some low is =
       subst (FitsSigned w64) (sym z) (below_fits n small),
     )
 
--- the number whose digits stand behind a minus is found
+-- the number whose digits stand after a minus is found
 pub below_each : (text rest : List ℕ) (size len n : ℕ) → ◌≡◌ {A = Option (ℕ × ℕ)} (Some (size, len)) (Some (suc n, length (decimal (suc n)))) → n < 2 ^ 63 → text ≡ decimal (suc n) ++ rest → (to_z w64 (of_z w64 (negsuc 0 -ℤ to_z w64 (size - 1))) ≡ negsuc n) × (take (length text - len) (drop len text) ≡ rest)
 below_each text rest size len n found low is =
     let pair : ◌≡◌ {A = ℕ × ℕ} (size, len) (suc n, length (decimal (suc n))) = some_is found in
@@ -429,14 +429,14 @@ below_each text rest size len n found low is =
       take_rest text len ∙ ap (λ p. drop p.1 text) pair ∙ ap (drop (length (decimal (suc n)))) is ∙ drop-front (decimal (suc n)) rest,
     )
 
--- digits of more than a negative number of 64 bits has, or of 0, are no number's behind a minus
+-- digits of more than a negative number of 64 bits has, or of 0, are no number's after a minus
 pub not_below : (size len n most : ℕ) → ◌≡◌ {A = Option (ℕ × ℕ)} (Some (size, len)) (Some (suc n, most)) → n < 2 ^ 63 → (1 ≤ size) × (size ≤ 2 ^ 63)
 not_below size len n most found low =
     let pair : ◌≡◌ {A = ℕ × ℕ} (size, len) (suc n, most) = some_is found in
     let first : size ≡ suc n = ap (λ p. p.0) pair in
     (omega (arith, first), omega (arith, first, low))
 
--- behind a minus stands a number below zero
+-- after a minus stands a number below zero
 pub below_zero : (number : ℤ) (rest text digits : List ℕ) (P : ℤ → List ℕ → Type 0) → FitsSigned w64 number → NoDigit rest → text ≡ 45 ∷ digits → text ≡ signed_decimal number ++ rest
     → ((n : ℕ) (rest : List ℕ) → n < 2 ^ 63 → NoDigit rest → 45 ∷ digits ≡ signed_decimal (negsuc n) ++ rest → P (negsuc n) rest) → P number rest
 below_zero (pos n) rest text digits P fits quiet minus is each = absurd (no_minus_first n rest digits (omega (arith, fits.sfits)) (sym is ∙ minus))

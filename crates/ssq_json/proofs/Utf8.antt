@@ -9,7 +9,7 @@ use Rattle.ssq_time.specs.Time.{IsStampTime, stamp_text}
 use Rattle.ssq_time.proofs.Ascii.{stamp_text-ascii}
 use Rattle.ssq_json.proofs.Writing.{print-one}
 
--- bytes that hold UTF-8 behind others
+-- bytes that hold UTF-8 after others
 pub appended : (old new more : List ℕ) → new ≡ old ++ more → IsUtf8 more → IsUtf8 old → IsUtf8 new
 appended old new more is utf8 before = subst IsUtf8 (sym is) (IsUtf8-append old more before utf8)
 
@@ -18,7 +18,7 @@ pub one_token : {E : Type 0} (r : Result (Unit {0}) E) (old new : Written) (t : 
 one_token (Ok done) old new t none w utf8 = rw (w.ok, none, print-one t) at utf8
 one_token (Err error) old new t none w utf8 = tt
 
--- a writer that began behind some bytes, after its only token
+-- a writer that began after some bytes, after its only token
 pub keyed : {E : Type 0} (done : Unit {0}) (old new : Written) (t : Token) (before out : List ℕ) → old.before ≡ before → IsUtf8 before → Writes {E = E} (Ok done) old new t → out ≡ new.before ++ print new.tokens → IsUtf8 (print new.tokens) → IsUtf8 out
 keyed done old new t before out begins b w is u =
     let same : new.before ≡ before = w.room.0 ∙ begins in

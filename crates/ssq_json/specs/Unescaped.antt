@@ -2,7 +2,7 @@
 -- it makes a byte of is found out when the text is quoted again.
 use Rattle.std.specs.Prelude.{ℕ, ◌+◌, ◌-◌, ◌==◌, nat_lt, List, [], ◌∷◌, Option, Some, None, option_and_then, if◌then◌else◌}
 
--- the byte that a letter behind a backslash is short for
+-- the byte that a letter after a backslash is short for
 unfoldable pub short_for : ℕ → ℕ
 short_for letter =
     if letter == 98 then 8
@@ -25,13 +25,13 @@ abbrev pub first_at : List ℕ → Option (ℕ × List ℕ)
 first_at [] = None
 first_at (first ∷ rest) = Some (first, rest)
 
--- behind `\u`: two digits that are passed over, and two that count
+-- after `\u`: two digits that are passed over, and two that count
 unfoldable pub control_at : List ℕ → Option (ℕ × List ℕ)
 control_at text =
     option_and_then (λ a. option_and_then (λ b. option_and_then (λ high. option_and_then (λ low.
     Some (control high.0 low.0, low.1)) (first_at high.1)) (first_at b.1)) (first_at a.1)) (first_at text)
 
--- behind a backslash
+-- after a backslash
 unfoldable pub escaped_at : List ℕ → Option (ℕ × List ℕ)
 escaped_at text = option_and_then (λ letter. if letter.0 == 117 then control_at letter.1 else Some (short_for letter.0, letter.1)) (first_at text)
 

@@ -32,7 +32,7 @@ fn behind<'a>(text: &'a [u8], front: &[u8]) -> Option<&'a [u8]>
     text.strip_prefix(front)
 }
 
-/// The byte that a letter behind a backslash is short for.
+/// The byte that a letter after a backslash is short for.
 #[tactic(auto, unfolding(crate::specs::Unescaped::short_for))]
 fn short_for(letter: u8) -> u8
     ensures { result ≡ short_for letter }
@@ -66,7 +66,7 @@ fn control(high: u8, low: u8) -> u8
     sixteens + units
 }
 
-/// The byte behind `\u`, of which two digits are passed over, and what follows.
+/// The byte after `\u`, of which two digits are passed over, and what follows.
 #[tactic(auto, unfolding(crate::specs::Unescaped::control_at))]
 fn take_control(text: &[u8]) -> Option<(u8, &[u8])>
     ensures byte { option_map (λ r. (r.0, r.1.now)) result ≡ control_at text.now }
@@ -78,7 +78,7 @@ fn take_control(text: &[u8]) -> Option<(u8, &[u8])>
     }
 }
 
-/// The byte behind a backslash, and what follows.
+/// The byte after a backslash, and what follows.
 #[tactic(auto, unfolding(crate::specs::Unescaped::escaped_at))]
 #[inline(never)]
 fn take_escaped_byte(text: &[u8]) -> Option<(u8, &[u8])>
@@ -331,7 +331,7 @@ fn take_value(
     }
 }
 
-/// The value of a column behind its head.
+/// The value of a column after its head.
 fn take_member<'a>(
     alloc: Global,
     head: &Head,

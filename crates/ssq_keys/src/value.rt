@@ -85,7 +85,7 @@ fn len_and_rest(bytes: &[u8]) -> Option<(u32, &[u8])>
 /// The most bytes of a text.
 const LONGEST: u32 = 1_048_576;
 
-/// The text behind its length in four bytes, where it is UTF-8 and no longer than a text may be, and what follows it.
+/// The text after its length in four bytes, where it is UTF-8 and no longer than a text may be, and what follows it.
 fn text_and_rest(bytes: &[u8]) -> Option<(&str, &[u8])>
     ensures found { IfSome result (λ parts. bytes.now ≡ (to_be_bytes w32 (length parts.0.now) ++ parts.0.now) ++ parts.1.now) }
     ensures short { IfSome result (λ parts. length parts.0.now ≤ longest) }

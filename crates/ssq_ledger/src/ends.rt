@@ -31,7 +31,7 @@ fn next_part(most: Option<u64>, part: PartEnd, found: u64) -> PartEnd
     }
 }
 
-/// The next cut, behind what is there already. A part of which no length was found stays where it is. It takes no memory.
+/// The next cut, after what is there already. A part of which no length was found stays where it is. It takes no memory.
 fn put_next(next: &mut Vec<PartEnd>, most: Option<u64>, ends: &[PartEnd], found: &[u64])
     requires { length next.old.items + length ends.now ≤ vec_capacity next.old }
     ensures { next.new.items ≡ next.old.items ++ next_ends most ends.now found.now }
@@ -102,7 +102,7 @@ fn dealt_to(begin: PartEnd, end: PartEnd) -> Place
     }
 }
 
-/// The map tasks of an epoch between the two cuts, behind what is there already. It takes no memory.
+/// The map tasks of an epoch between the two cuts, after what is there already. It takes no memory.
 fn put_dealt(places: &mut Vec<Place>, from: &[PartEnd], to: &[PartEnd])
     requires { length places.old.items + length from.now ≤ vec_capacity places.old }
     ensures { places.new.items ≡ places.old.items ++ dealt from.now to.now }

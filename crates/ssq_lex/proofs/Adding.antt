@@ -12,7 +12,7 @@ second_of true b both = both
 second_of false true both = refl
 second_of false false both = both
 
--- the text of a word was added behind its space, where memory served
+-- the text of a word was added after its space, where memory served
 pub added : {A E : Type 0} {old was : Print} → old ≡ was → (word : Lexeme) (out : List ℕ) (result : Result A E) → OnOk result (out ≡ old.printed.text ++ lead old.printed.last word ++ word_text word) →
     Adds was (word ∷ []) (ended (record { printed = record { text = out; last = old.printed.last }; is_whole = old.is_whole }) (is_ok result) (word_end word))
 unfolding with_word

@@ -84,7 +84,7 @@ own = numerals_by_value AreDigits tells_by_index
 pub parsed : {E : Type 0} (digits : List ℕ) (r : Result ℤ E) → ParsesSigned w64 10 digits r → 0 < length digits → ((i : ℕ) → i < length digits → is_ascii_digit (get_or digits i 0) ≡ true) → OkIff r ((0 < length digits) × (digits_value 10 digits < 2 ^ 63)) (pos (digits_value 10 digits))
 parsed digits r parses some all = parse_signed_digits own w64 digits r parses (λ i within. digit_in_range _ (all i within))
 
--- a text may be cut behind a quote
+-- a text may be cut after a quote
 pub quote_boundary : (bytes : List ℕ) → IsUtf8 bytes → get_or bytes 0 0 ≡ 39 → IsCharBoundary bytes 1
 quote_boundary [] utf8 is_quote = absurd (omega (arith, is_quote))
 quote_boundary (b ∷ bs) utf8 is_quote = IsCharBoundary-after_ascii (b ∷ bs) 0 utf8 (omega arith) (omega (arith, is_quote))

@@ -153,7 +153,7 @@ name_whole [] passes = refl
 name_whole (b ∷ bs) passes =
     ap (λ t. cond t (1 + prefix_len is_in_name bs) 0) (passes 0 (omega arith)) ∙ omega (arith, name_whole bs (λ i within. passes (suc i) (omega arith)))
 
--- what a word asks of the text behind it
+-- what a word asks of the text after it
 abbrev pub Stops : Lexeme → List ℕ → Type 0
 Stops word rest = is_joined (word_end word) ≡ false → is_stop (get_or rest 0 0) ≡ true
 

@@ -51,7 +51,7 @@ undoubled-single (c ∷ bs) alone =
 pub lacks : (text : List ℕ) → ((i : ℕ) → i < length text → get_or text i 0 ≢ 39) → Lacks text
 lacks text at = record { at = at }
 
--- a text that is written between quotes so far goes on behind the next quote in it
+-- a text that is written between quotes so far goes on after the next quote in it
 pub doubles_on : (written rest before after all : List ℕ) → written ++ doubled rest ≡ all → (rest ≡ before ++ 39 ∷ after) × ((i : ℕ) → i < length before → get_or before i 0 ≢ 39) → (written ++ before ++ 39 ∷ 39 ∷ []) ++ doubled after ≡ all
 doubles_on written rest before after all so_far split =
     append_assoc (written ++ before) (39 ∷ 39 ∷ []) (doubled after)
@@ -66,7 +66,7 @@ undoubles_on written rest before after behind all so_far split next =
     ∙ ap (λ t. written ++ t) (ap (λ t. before ++ t) (sym next) ∙ sym (undoubled-before before (39 ∷ after) (lacks before split.1)) ∙ ap undoubled (sym split.0))
     ∙ so_far
 
--- what stands behind a quote is text
+-- what stands after a quote is text
 pub utf8_behind : (rest before after : List ℕ) → IsUtf8 rest → rest ≡ before ++ 39 ∷ after → IsUtf8 after
 utf8_behind rest before after utf8 split =
     let here : get_or rest (length before) 0 ≡ 39 = ap (λ t. get_or t (length before) 0) split ∙ get_or-append_seam before 39 after 0 in

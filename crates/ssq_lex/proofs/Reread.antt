@@ -15,7 +15,7 @@ use Rattle.ssq_lex.specs.Spelling.{keyword_spelling, symbol_spelling}
 use Rattle.ssq_lex.proofs.Heads.{is_stop, Stops, word_head, word_some}
 use Rattle.ssq_lex.proofs.Steps.{cut_from-found}
 
--- the text of words behind a word that stands so
+-- the text of words after a word that stands so
 abbrev pub after : End → List Lexeme → List ℕ
 after last [] = []
 after last (word ∷ words) = lead last word ++ (word_text word ++ after (word_end word) words)
@@ -28,7 +28,7 @@ printed_after p (word ∷ words) =
     ∙ append_assoc (p.text ++ lead p.last word) (word_text word) (after (word_end word) words)
     ∙ append_assoc p.text (lead p.last word) (word_text word ++ after (word_end word) words)
 
--- behind a word that does not stand joined, the text stops it
+-- after a word that does not stand joined, the text stops it
 symbol_stops : (last : End) (s : Symbol) (rest : List ℕ) → is_joined last ≡ false → is_stop (get_or (lead last (symbol s) ++ (symbol_spelling s ++ rest)) 0 0) ≡ true
 unfolding symbol_spelling
 symbol_stops end.Joined s rest apart = absurd (true≢false apart)

@@ -22,7 +22,7 @@ rest_after (suc n) at b bytes some within =
     let place : at + 1 + n ≡ at + suc n = omega arith in
     ap (λ k. cut_from k (at + 1) bytes) less ∙ cut_from-taken n (at + 1) bytes (omega arith) ∙ ap (λ k. cut_from 0 k (drop n bytes)) place
 
--- a front that is found stands before the tokens of what is behind it
+-- a front that is found stands before the tokens of what is after it
 pub cut_from-found : (rest : List ℕ) (at : ℕ) (head : Head) → front rest ≡ Ok head → 0 < head.len → head.len ≤ length rest → cut_from 0 at rest ≡ followed (token_at at head.len head.said) (cut_from 0 (at + head.len) (drop head.len rest))
 cut_from-found [] at head found some within = absurd (omega arith)
 cut_from-found (b ∷ bytes) at head found some within =

@@ -54,7 +54,7 @@ number_to len (Err cause) = Err cause
 unfoldable pub number_at : List ℕ → Result Head LexCause
 number_at bytes = let len = prefix_len is_ascii_digit bytes in number_to len (value_of (take len bytes))
 
--- The place of the quote that ends a text, counted from behind the opening one. Two quotes one after the
+-- The place of the quote that ends a text, counted from after the opening one. Two quotes one after the
 -- other belong to the text.
 abbrev pub closing : List ℕ → Option ℕ
 closing [] = None
@@ -107,7 +107,7 @@ token_at at len (Some lexeme) = record { start = at; end = at + len; said = lexe
 abbrev pub followed : List Lexed → Cut → Cut
 followed front rest = record { tokens = front ++ rest.tokens; fault = rest.fault }
 
--- A front at a place, and then what stands behind it. The rest is asked by how many bytes of it the front takes,
+-- A front at a place, and then what stands after it. The rest is asked by how many bytes of it the front takes,
 -- beside its first.
 abbrev pub and_rest : ℕ → Result Head LexCause → (ℕ → Cut) → Cut
 and_rest at (Err cause) rest = record { tokens = []; fault = Some (record { at = at; cause = cause }) }

@@ -30,7 +30,7 @@ is_function other = false
 abbrev pub keyword_end : Keyword → End
 keyword_end k = if is_function k then end.Applied else end.Apart
 
--- no space stands behind `(` and `.`
+-- no space stands after `(` and `.`
 abbrev pub symbol_end : Symbol → End
 symbol_end mark.LeftParen = end.Joined
 symbol_end mark.Dot = end.Joined
@@ -63,7 +63,7 @@ symbol_touches end.Joined s = true
 symbol_touches end.Applied s = is_left_paren s || closes s
 symbol_touches end.Apart s = closes s
 
--- the next word stands at once behind the last
+-- the next word stands at once after the last
 abbrev pub touches : End → Lexeme → Bool
 touches last (symbol s) = symbol_touches last s
 touches last other = is_joined last
@@ -103,7 +103,7 @@ unprinted = record { printed = blank; is_whole = true }
 pub record WholeAs (print : Print) (wanted : Printed) : Type 0 where
   pub is : print.is_whole ≡ true → print.printed ≡ wanted
 
--- Words were added: what was printed stands as it stood, and these words behind it.
+-- Words were added: what was printed stands as it stood, and these words after it.
 abbrev pub Adds : Print → List Lexeme → Print → Type 0
 Adds old words new = (before : Printed) → WholeAs old before → WholeAs new (with_words before words)
 

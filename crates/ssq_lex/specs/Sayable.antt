@@ -40,7 +40,7 @@ PrintedIsRead = (words : List Lexeme) → All IsSayable words → AreRead words 
 abbrev pub PrintedIsText : Type 0
 PrintedIsText = (words : List Lexeme) → All IsSayable words → IsUtf8 (printed words)
 
--- tokens stand one behind the other, from a place on and within a length, and each takes some bytes
+-- tokens stand one after the other, from a place on and within a length, and each takes some bytes
 abbrev pub StandInOrder : ℕ → ℕ → List Lexed → Type 0
 StandInOrder from len [] = Unit {0}
 StandInOrder from len (token ∷ tokens) = (from ≤ token.start) × (token.start < token.end) × (token.end ≤ len) × StandInOrder token.end len tokens

@@ -15,7 +15,7 @@ use crate::keyword::keyword_of;
 use crate::symbol::{Symbol, long_symbol, short_symbol};
 use crate::token::Kind;
 
-/// What stands at the front of a text, how many bytes it takes, and the text behind it.
+/// What stands at the front of a text, how many bytes it takes, and the text after it.
 #[derive(Clone, Copy)]
 pub(crate) struct Front<'a> {
     /// Blanks and comments are no tokens.
@@ -60,7 +60,7 @@ fn line_len(bytes: &[u8]) -> usize
     bytes.iter().take_while(|b| **b != b'\n').count()
 }
 
-/// The place of the quote that ends a text, behind its opening quote.
+/// The place of the quote that ends a text, after its opening quote.
 #[tactic(auto, using(crate::proofs::Closing::closing_steps))]
 fn closing(bytes: &[u8]) -> Option<usize>
     ensures value { result ≡ spec.closing bytes.now }

@@ -16,17 +16,17 @@ use std::marker::Model;
 /// How the last word of a text stands to the next one.
 #[derive(Clone, Copy)]
 pub enum End {
-    /// At the start, behind `(` and behind `.`: no space stands before the next word.
+    /// At the start, after `(` and after `.`: no space stands before the next word.
     Joined,
-    /// Behind WINDOW, COUNT, SUM, MIN and MAX: no space stands before a `(`.
+    /// After WINDOW, COUNT, SUM, MIN and MAX: no space stands before a `(`.
     Applied,
-    /// Behind every other word: a space stands, but before `)`, `,`, `;` and `.`.
+    /// After every other word: a space stands, but before `)`, `,`, `;` and `.`.
     Apart,
 }
 
 /// A text that is printed word by word.
 ///
-/// One space stands between two words, but none behind `(`, none around `.`, none before `)`, `,` and `;`, and none
+/// One space stands between two words, but none after `(`, none around `.`, none before `)`, `,` and `;`, and none
 /// between WINDOW, COUNT, SUM, MIN or MAX and a `(`. It remembers where memory ran out, and tells it at the end.
 #[derive(Drop)]
 pub struct Printer {
@@ -81,7 +81,7 @@ fn closes(word: Symbol) -> bool
     }
 }
 
-/// Whether a symbol stands at once behind the last word.
+/// Whether a symbol stands at once after the last word.
 fn symbol_touches(last: End, word: Symbol) -> bool
     ensures { result ≡ spec.symbol_touches last word }
 {
@@ -109,7 +109,7 @@ fn push_lead(out: &mut String, touches: bool) -> Result<(), AllocError>
     Ok(())
 }
 
-/// Adds a text behind its space, where one stands.
+/// Adds a text after its space, where one stands.
 fn push_word(out: &mut String, touches: bool, word: &str) -> Result<(), AllocError>
     ensures { OnOk result (string_bytes out.new ≡ string_bytes out.old ++ (if touches then [] else 32 ∷ []) ++ word.now) }
 {
@@ -117,7 +117,7 @@ fn push_word(out: &mut String, touches: bool, word: &str) -> Result<(), AllocErr
     out.push_str(word)
 }
 
-/// Adds a number behind its space, where one stands.
+/// Adds a number after its space, where one stands.
 fn push_number(out: &mut String, touches: bool, value: i64) -> Result<(), AllocError>
     ensures { OnOk result (string_bytes out.new
         ≡ string_bytes out.old ++ (if touches then [] else 32 ∷ []) ++ spec.word_text (number value)) }
@@ -127,7 +127,7 @@ fn push_number(out: &mut String, touches: bool, value: i64) -> Result<(), AllocE
     Ok(())
 }
 
-/// Adds a text between quotes behind its space, where one stands.
+/// Adds a text between quotes after its space, where one stands.
 fn push_text(out: &mut String, touches: bool, text: &str) -> Result<(), AllocError>
     ensures { OnOk result (string_bytes out.new
         ≡ string_bytes out.old ++ (if touches then [] else 32 ∷ []) ++ spec.word_text (quoted text.now)) }

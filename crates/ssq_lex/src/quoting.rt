@@ -5,7 +5,7 @@ ghost use Rattle.ssq_lex.specs.Lexeme.{undoubled, doubled};
 
 use std::alloc::{AllocError, Global};
 
-/// What stands behind a quote and the second one that may follow it.
+/// What stands after a quote and the second one that may follow it.
 fn behind_quote(rest: &str) -> &str
     ensures value { undoubled (39 ∷ rest.now) ≡ 39 ∷ undoubled result.now }
     ensures shorter { length result.now ≤ length rest.now }

@@ -1,4 +1,4 @@
--- Logs that are opened one behind the other.
+-- Logs that are opened one after the other.
 use Rattle.std.proofs.Common.{◌≡◌, ◌<◌, ◌≤◌, ◌+◌, ◌-◌, ◌++◌, ◌∷◌, [], ℕ, zero, suc, List, map, Result, Ok, Err, OnOk, OnErr, refl, sym, ap, ◌∙◌, subst, arith}
 use Rattle.std.proofs.lemmas.List.{append-nil, append_assoc, map-append}
 use Rattle.ssq_outside.specs.Logs.{Held, Line}
@@ -7,11 +7,11 @@ use Rattle.ssq_logs.specs.declared.fault.PartsFault.{PartsFault}
 use Rattle.ssq_logs.specs.Parts.{counts_in, lines_from, lines_in}
 use Rattle.ssq_logs.specs.Opened.{Part, parts_from, parts_of, IsLogOf, AreLogsOf, AreOpened, AreOpenedUpTo}
 
--- one part, and those behind it
+-- one part, and those after it
 pub parts_next : (source : List ℕ) (part end : ℕ) → part < end → parts_from source part (end - part) ≡ record { source = source; number = part } ∷ parts_from source (part + 1) (end - (part + 1))
 parts_next source part end more = let one : end - part ≡ suc (end - (part + 1)) = omega arith in ap (parts_from source part) one
 
--- the parts of one stream, and those of the streams behind it
+-- the parts of one stream, and those of the streams after it
 pub parts_first : (streams rest : List Stream) (s : Stream) (source : List ℕ) (counts more : List ℕ) (n : ℕ) → streams ≡ s ∷ rest → source ≡ s.source → counts ≡ n ∷ more
     → parts_of streams counts ≡ parts_from source 0 (n - 0) ++ parts_of rest more
 parts_first streams rest s source counts more n is from are =
@@ -86,7 +86,7 @@ module _ {L : Type 0} (tells : Type 0) (lines : L → List Line) (available : L 
   pub upto_here : (held : Held) (known : List ℕ → ℕ → ℕ) (all rest : List Part) (part : Part) (old new : List L) → all ≡ part ∷ rest → new ≡ old → AreOpenedUpTo tells lines available answers faults held known all old new
   upto_here held known all rest part old new is same = record { first = []; next = part; rest = rest; split = is; opened = record { more = []; behind = same ∙ sym (append-nil old); are = tt } }
 
-  -- these could, and one behind them could not
+  -- these could, and one after them could not
   pub upto_later : (r : Result (Unit {0}) PartsFault) (held now : Held) (known later : List ℕ → ℕ → ℕ) → (tells → now ≡ held) → (tells → (stream : List ℕ) (part : ℕ) → known stream part ≤ later stream part)
       → (all parts others : List Part) (old mid new : List L) → all ≡ parts ++ others → AreOpened tells lines available answers faults held known parts old mid
       → OnErr r (AreOpenedUpTo tells lines available answers faults now later others mid new) → OnErr r (AreOpenedUpTo tells lines available answers faults held known all old new)

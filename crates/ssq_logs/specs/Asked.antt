@@ -43,7 +43,7 @@ module _ {L : Type 0} (tells : Type 0) (lines : L → List Line) (available : L 
   IsStopAt number before after LogFault = HasFailed before after
   IsStopAt number before after NoMemory = (found : ℕ) × IsAnswered before after found
 
-  -- The logs were asked up to one that has too many lines, or failed, or behind which memory ran out; those behind it are as they
+  -- The logs were asked up to one that has too many lines, or failed, or after which memory ran out; those after it are as they
   -- were. The first of these has this number.
   abbrev pub IsStopped : ℕ → (before after : List L) → LengthFault → Type 0
   IsStopped number [] after fault = ⊥

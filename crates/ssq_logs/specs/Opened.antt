@@ -35,7 +35,7 @@ module _ {L : Type 0} (tells : Type 0) (lines : L → List Line) (available : L 
   AreLogsOf held known (part ∷ parts) [] = ⊥
   AreLogsOf held known (part ∷ parts) (log ∷ logs) = IsLogOf held known part log × AreLogsOf held known parts logs
 
-  -- the logs of these parts stand behind those that were there
+  -- the logs of these parts stand after those that were there
   pub record AreOpened (held : Held) (known : List ℕ → ℕ → ℕ) (parts : List Part) (before after : List L) : Type 0 where
     pub more : List L
     pub behind : after ≡ before ++ more

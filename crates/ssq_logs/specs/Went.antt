@@ -2,7 +2,7 @@
 use Rattle.std.specs.Prelude.{◌≡◌, ◌≤◌, ◌+◌, ◌-◌, ◌^◌, ◌++◌, ℕ, List, [], ◌∷◌, reverse, min, sum}
 use Rattle.ssq_outside.specs.Logs.{Held}
 
--- the logs that came back by what they had answered, the last one first, once these came back behind those
+-- the logs that came back by what they had answered, the last one first, once these came back after those
 abbrev pub returned_with : List (List ℕ) → List (List ℕ) → List (List ℕ)
 returned_with back before = reverse back ++ before
 

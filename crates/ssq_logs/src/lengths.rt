@@ -17,7 +17,7 @@ fn put(found: &mut Vec<u64>, lines: u64) -> Result<(), AllocError>
     Ok(())
 }
 
-/// Asks each log, and puts the answers behind those that are there.
+/// Asks each log, and puts the answers after those that are there.
 fn put_lengths<L: Log>(found: &mut Vec<u64>, logs: &mut [L]) -> Result<(), LengthFault>
     ensures asked { OnOk result ((answers : List ℕ) × (found.new.items ≡ found.old.items ++ answers)
         × AreAsked L.tells L.lines L.available L.answers L.faults logs.old logs.new answers) }

@@ -31,7 +31,7 @@ pub fn room<L: Drop>(alloc: Global, counts: &[u32]) -> Result<Vec<L>, AllocError
     Vec::with_capacity(alloc, total)
 }
 
-/// Opens a part of a stream, and puts its log behind those that are there.
+/// Opens a part of a stream, and puts its log after those that are there.
 fn open_part<I: Inputs>(
     alloc: Global,
     inputs: &mut I,
@@ -111,11 +111,11 @@ fn put_logs<I: Inputs>(
     put_logs(alloc, inputs, rest, more, logs)
 }
 
-/// Opens the log of each part of each stream, in order, and puts it behind those that are there: so many parts of each stream as `counts` says,
+/// Opens the log of each part of each stream, in order, and puts it after those that are there: so many parts of each stream as `counts` says,
 /// for which there is room.
 ///
 /// It fails with `LogFault` where the inputs failed, and with `NoMemory` where memory ran out, and is never `Full`. No log is lost then: those
-/// that were opened before stand behind those that were there.
+/// that were opened before stand after those that were there.
 pub fn open_logs<I: Inputs>(
     alloc: Global,
     inputs: &mut I,

@@ -17,7 +17,7 @@ use Rattle.ssq_meaning.specs.Operator.{dedup}
 use Rattle.ssq_meaning.proofs.Parted.{has_in}
 use Rattle.ssq_meaning.proofs.Together.{shown_together}
 
--- those of two lists, one behind the other
+-- those of two lists, one after the other
 pub firsts-append : (earlier xs ys : List FedRow) → firsts earlier (xs ++ ys) ≡ firsts earlier xs ++ firsts (earlier ++ xs) ys
 unfolding firsts
 firsts-append earlier [] ys = ap (λ e. firsts e ys) (sym (append-nil earlier))

@@ -1,4 +1,4 @@
--- Epochs read the same of logs that have grown behind them.
+-- Epochs read the same of logs that have grown after them.
 use Rattle.std.proofs.Common.{◌≡◌, ◌<◌, ◌≤◌, ◌+◌, ◌==◌, ◌++◌, [], ◌∷◌, ℕ, zero, suc, List, None, Result, Ok, Err, refl, ap, sym, ◌∙◌, length, map}
 use Rattle.std.specs.Prelude.{if◌then◌else◌}
 use Rattle.std.specs.List.{flat_map, enumerate_from}
@@ -15,11 +15,11 @@ use Rattle.ssq_meaning.proofs.Between.{lines_between-grown}
 
 -- ---- one part
 
--- the part with these lines behind its own
+-- the part with these lines after its own
 abbrev pub with_more : Part → List Line → Part
 with_more part more = record { stream = part.stream; part = part.part; lines = part.lines ++ more }
 
--- what is said of the lines of a part up to an end is said of them where there are more behind
+-- what is said of the lines of a part up to an end is said of them where there are more after
 abbrev Lasts : {A : Type 0} → (Part → ℕ → ℕ → A) → Type 0
 Lasts say = (part : Part) (more : List Line) (from to : ℕ) → to ≤ length part.lines → say part from to ≡ say (with_more part more) from to
 
@@ -51,14 +51,14 @@ fault_lasts query part more from to le =
 
 -- ---- all parts
 
--- as many parts, each of them with some lines behind its own
+-- as many parts, each of them with some lines after its own
 abbrev pub AreGrownParts : List Part → List Part → Type 0
 AreGrownParts [] [] = Unit {0}
 AreGrownParts [] (other ∷ others) = ⊥
 AreGrownParts (part ∷ parts) [] = ⊥
 AreGrownParts (part ∷ parts) (other ∷ others) = ((more : List Line) × (other ≡ with_more part more)) × AreGrownParts parts others
 
--- no end is behind the lines of its part
+-- no end is after the lines of its part
 abbrev pub AreCovered : List Part → Cut → Type 0
 AreCovered [] ends = Unit {0}
 AreCovered (part ∷ parts) [] = Unit {0}

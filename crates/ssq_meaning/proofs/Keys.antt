@@ -102,7 +102,7 @@ module _ {A : Type 0} where
 -- ---- counting
 
 module _ {A : Type 0} where
-  -- a test behind one that decides it
+  -- a test after one that decides it
   pub filter_within : (p q : A → Bool) (b : Bool) → ((x : A) → p x ≡ true → q x ≡ b) → (xs : List A) → filter p (filter q xs) ≡ (if b then filter p xs else [])
   filter_within p q true agree [] = refl
   filter_within p q false agree [] = refl
@@ -163,7 +163,7 @@ unfolding distinct
 All-distinct P [] all = tt
 All-distinct P (key ∷ keys) all = (all.0, All-by P (λ other. not (is_same key other)) (distinct keys) (All-distinct P keys all.1))
 
--- keys that fail a test, behind others, add nothing to what passes
+-- keys that fail a test, after others, add nothing to what passes
 pub more_fail : (p : Values → Bool) (new : List Values) → AllByRecursion (λ key. p key ≡ false) new → (old : List Values) → filter p (distinct (old ++ new)) ≡ filter p (distinct old)
 unfolding distinct
 more_fail p new none [] = none_pass p (distinct new) (All-distinct (λ key. p key ≡ false) new none)

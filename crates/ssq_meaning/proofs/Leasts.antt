@@ -13,7 +13,7 @@ use Rattle.ssq_meaning.specs.Meaning.{Values}
 use Rattle.ssq_meaning.proofs.Bags.{times-cons}
 use Rattle.ssq_meaning.proofs.Keys.{same_is, same_itself}
 
--- the key is among those, and stands behind none of them
+-- the key is among those, and stands after none of them
 abbrev pub IsLeastOf : List Values → Option Values → Type 0
 IsLeastOf keys None = (x : Values) → times x keys ≡ 0
 IsLeastOf keys (Some k) = (n : ℕ) × (times k keys ≡ suc n) × ((x : Values) (m : ℕ) → times x keys ≡ suc m → is_gt (values_cmp k x) ≡ false)

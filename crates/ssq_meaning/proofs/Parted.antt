@@ -136,7 +136,7 @@ module _ (partitions : ℕ) where
     all_due : ℕ → ℕ → List Values
     all_due from many = flat_map due_in (range_with_len from many)
 
-    -- no partition behind its own has a key
+    -- no partition after its own has a key
     passed : (key : Values) (from many : ℕ) → place key < from → times key (all_due from many) ≡ 0
     unfolding all_due
     passed key from zero less = refl
@@ -203,7 +203,7 @@ module _ (partitions : ℕ) where
         ++ faulty_from (from + 1) many i)
         ∙ sym (filter-append (key_overflows query grouping (old ++ new)) (due_in from) (all_due (from + 1) many))
 
--- the least of two lists, one behind the other
+-- the least of two lists, one after the other
 both_least : (xs ys : List Values) (k : Values) (o : Option Values) → IsLeastOf xs (Some k) → IsLeastOf ys o → IsLeastOf (xs ++ ys) (Some (lesser_key k o))
 both_least xs ys k None least none = (
   least.0,

@@ -158,7 +158,7 @@ module _ (query : Bound) (joining : Joining) (is : query.shape ≡ Join joining)
   if_once epoch part at to low (Ok (row ∷ other ∷ rows)) once = absurd (omega (arith, once))
   if_once epoch part at to low (Err fault) once = (tt, tt, tt)
 
-  -- the rows of lines one behind the other
+  -- the rows of lines one after the other
   lines_once : (epoch : ℕ) (part : Part) (at to : ℕ) (lines : List Line) → length lines ≤ to - at
       → AreElsewhere (flat_map (λ line. fed_at query epoch part line.0 line.1) (enumerate_from at lines))
       × AllByRecursion (IsOf epoch part at to) (flat_map (λ line. fed_at query epoch part line.0 line.1) (enumerate_from at lines))

@@ -71,7 +71,7 @@ is_candidate joining left right = (is_left left.stream && not (is_left right.str
 abbrev pub joined_row : (left right : FedRow) → Values
 joined_row left right = left.values ++ right.values
 
--- Conditions joined by AND, TRUE where there is none: they are evaluated from the left, and none behind a FALSE.
+-- Conditions joined by AND, TRUE where there is none: they are evaluated from the left, and none after a FALSE.
 unfoldable pub all_of : List Typed → Values → Evaluated
 all_of [] row = Ok (value.Truth true)
 all_of (condition ∷ conditions) row = and_then (evaluated condition row) (λ first. conjunction (truth_in first) (truth_of (all_of conditions row)))

@@ -62,7 +62,7 @@ is_key at output = is_key_at at output.key
 abbrev pub IsWindowAt : List GroupKey → ℕ → Type 0
 IsWindowAt keys at = (column : ℕ) × (size : ℤ) × (slide : ℤ) × (slice_get keys at ≡ Some (key.Window column size slide))
 
--- an expression is a key alone: its value, or the end of a window, some time behind its start
+-- an expression is a key alone: its value, or the end of a window, some time after its start
 abbrev pub IsKeyAlone : List GroupKey → Typed → ℕ → Type 0
 IsKeyAlone keys value at = (value ≡ typed.Column at) ⊎ ((by : ℤ) × (value ≡ typed.Shifted' tt (only (typed.Column at)) by) × IsWindowAt keys at)
 

@@ -32,7 +32,7 @@ summand (value.Truth truth) = pos 0
 abbrev pub sum_of : List Value → ℤ
 sum_of values = fold (λ sum value. sum +ℤ summand value) (pos 0) values
 
--- of two values the one that does not stand behind the other, and the one that does not stand before it; where one of them is NULL,
+-- of two values the one that does not stand after the other, and the one that does not stand before it; where one of them is NULL,
 -- the other
 unfoldable pub lesser : Value → Value → Value
 lesser left right =

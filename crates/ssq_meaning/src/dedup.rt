@@ -60,7 +60,7 @@ pub fn first_rows_fall_into_partitions()
         ((dedup query columns).added old new before now) }
 {}
 
-/// The law of what is kept, as bytes: the bytes of a key are there, with nothing behind them, where it is kept, and else not.
+/// The law of what is kept, as bytes: the bytes of a key are there, with nothing after them, where it is kept, and else not.
 pub fn kept_keys_are_found()
     ensures found { (query : Query) (columns : List ℕ) (rows : List Fed) (now : Option ℤ) (key : Values) → All IsSpelled key →
         AllByRecursion (λ row. IsKeySpelled (length key) row.key) rows →

@@ -17,7 +17,7 @@ pub struct FedRow {
     values: u32,
     offset: u64,
     time: Option<i64>,
-    /// The row's own values, and behind them those of its key.
+    /// The row's own values, and after them those of its key.
     cells: Vec<Value>,
 }
 
@@ -51,7 +51,7 @@ fn count_of(count: usize) -> Result<u32, AllocError>
     }
 }
 
-/// The values of a row, and behind them those of its key. All are moved into the key's room; where the key is empty they stay in theirs.
+/// The values of a row, and after them those of its key. All are moved into the key's room; where the key is empty they stay in theirs.
 fn joined(key: Vec<Value>, values: Vec<Value>) -> Result<Vec<Value>, AllocError>
     ensures { IfOk result (λ cells. cells.items ≡ values.items ++ key.items) }
 {
@@ -85,7 +85,7 @@ impl FedRow {
         FedRow::of_cells(epoch, stream, part, offset, count, time, cells)
     }
 
-    /// The row that is fed from a line with so many values, and a key behind them.
+    /// The row that is fed from a line with so many values, and a key after them.
     pub fn of_cells(
         epoch: u32,
         stream: u32,

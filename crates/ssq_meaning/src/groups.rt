@@ -111,7 +111,7 @@ pub fn groups_fall_into_partitions()
         (group query grouping).fault old new before now }
 {}
 
-/// The law of what is kept, as bytes: behind the bytes of a key stand those of its totals, where it is kept, and else nothing.
+/// The law of what is kept, as bytes: after the bytes of a key stand those of its totals, where it is kept, and else nothing.
 pub fn kept_groups_are_found()
     ensures found { (query : Query) (grouping : Groups) (rows : List Fed) (now : Option ℤ) (key : Values) → All IsSpelled key →
         AllByRecursion (λ row. IsKeySpelled (length key) row.key) rows →

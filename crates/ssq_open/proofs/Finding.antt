@@ -49,7 +49,7 @@ none_passes p xs x e has passes = let fails : p (get_or xs has.0 x) ≡ false = 
 pub found_contained : (p : Name → Bool) (xs : List Name) (x : Name) → find p xs ≡ Some x → Contains xs x × (p x ≡ true)
 found_contained p xs x e = let first = found p xs x e in ((first.at, first.within, first.is x), first.passes)
 
--- another that passes stands behind it
+-- another that passes stands after it
 pub found_before : (p : Name → Bool) (xs : List Name) (x y : Name) → AreInOrder xs → find p xs ≡ Some x → Contains xs y → p y ≡ true → (y ≡ x) ⊎ IsTrue (name_before x y)
 found_before p xs x y order e has passes = let first = found p xs x e in by_place first (cases_lt has.0 first.at) (cases_lt first.at has.0)
   where

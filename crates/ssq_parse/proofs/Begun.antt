@@ -74,7 +74,7 @@ module _ {W V : Type 0} (part : W → Words) (good : W → Type 0) (wrote : V �
   if_begun_map (Ok found) begun = tt
   if_begun_map (Err refusal) begun = if_missing refusal.cause refusal.at begun_map begun
 
--- ---- one reader behind another
+-- ---- one reader after another
 
 module _ {W A B : Type 0} (wrote : W → Words) (good : W → Type 0) (tokens : Ahead) where
   pub begun_then : (P : A × Ahead → Type 0) (read : Read A) (f : A × Ahead → Read B) → IfRead read P → IfBegun wrote good tokens read
@@ -100,7 +100,7 @@ abbrev pub RefusesNext : {A : Type 0} → Words → Ahead → Read A → Type 0
 RefusesNext more rest (Ok found) = Unit {0}
 RefusesNext more rest (Err refusal) = IfMissing refusal.cause refusal.at ((place rest ≡ refusal.at) × IfText refusal.cause more)
 
--- behind these words it is refused, and something goes on with these
+-- after these words it is refused, and something goes on with these
 pub begun_next : {W A : Type 0} (wrote : W → Words) (good : W → Type 0) (start rest : Ahead) (u more : Words) (read : Read A) → RefusesNext more rest read → Took start rest u
     → (w : W) → good w → wrote w ≡ u ++ more → IfBegun wrote good start read
 begun_next wrote good start rest u more (Ok found) next took w is said = tt

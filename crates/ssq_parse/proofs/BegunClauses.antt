@@ -50,7 +50,7 @@ bare_next : (is_name : Bool) (value : Expr) (at : ℕ) (rest : Ahead) → Refuse
 bare_next true (e.Column column) at rest = tt
 bare_next is_name other at rest = (refl, tt)
 
--- behind the words of an expression an item that is no column goes on with AS, and behind that with a name
+-- after the words of an expression an item that is no column goes on with AS, and after that with a name
 module _ (start : Ahead) (w : Written) (regular : IsRegular w) (flag : Bool) (value : Tree) where
   label_begun : (t : Lexed) (ts : Ahead) → Took start (t ∷ ts) (words w) → (b : Bool) → (b ≡ true → t.said ≡ keyword key.As)
       → IfBegun item_words (IsRegularItem IsRegular) start (item_by flag value (if b then Some t.start else None) (t ∷ ts))
@@ -159,7 +159,7 @@ unfolding slide_at
 slides_tell = if_symbol mark.Comma slide_by (pure slides None tt refl None)
     (λ at. skip (record { make = λ w. Some w.1; made = λ w is. is.1; said = λ w is. refl }) (last (λ found. Some found) spans_tell))
 
--- a window behind its keyword
+-- a window after its keyword
 abbrev windows : Phrases
 windows = record {
   Form = WrittenWindow;

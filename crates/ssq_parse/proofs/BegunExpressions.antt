@@ -43,7 +43,7 @@ made_then asked start rest (Err refusal) f never more = if_missing refusal.cause
 -- ---- operators in front of an operand
 
 module _ (o : UnaryOp) (operand : Reader) (begins : Begins (unary_level o) operand) where
-  -- behind so many operators
+  -- after so many operators
   abbrev Fronted : ℕ → Ahead → Type 0
   Fronted k tokens = IfBegun words (Fits (unary_level o)) tokens (operand (drop k tokens))
 
@@ -160,7 +160,7 @@ module _ (depth : ℕ) (inner : Reader) (sound : (k : ℕ) → depth ≡ suc k �
         (λ w. middle (words sl.written) (keyword key.Between) (words w) (keyword key.And ∷ keyword key.True ∷ []))
         (sum_at depth inner ts) (sum_begun ts)
 
-    -- behind the lower bound
+    -- after the lower bound
     module _ (word : t.said ≡ keyword key.Between) (low : Tree × Ahead) (sm : Spelled 4 depth ts low.0 low.1) where
       abbrev so_far : Words
       so_far = words sl.written ++ keyword key.Between ∷ words sm.written

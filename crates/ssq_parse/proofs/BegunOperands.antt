@@ -80,7 +80,7 @@ module _ (depth : ℕ) (inner : Reader) (sound : (k : ℕ) → depth ≡ suc k �
   unfolding inside_at
   inside_begun bracket tokens = inside_by (depth == 0) refl bracket tokens
 
-  -- behind the words in front of what stands in brackets
+  -- after the words in front of what stands in brackets
   module _ (start us : Ahead) (u : Words) (took : Took start us u) (make : Written → Written) (fits : (w : Written) → IsRegular w → Fits 7 (make w))
       (said : (w : Written) → words (make w) ≡ u ++ (words w ++ symbol mark.RightParen ∷ [])) where
     unclosed : (found : Tree × Ahead) → In depth us found → IfBegun words (Fits 7) start (symbol_at mark.RightParen found.1)
@@ -120,7 +120,7 @@ module _ (depth : ℕ) (inner : Reader) (sound : (k : ℕ) → depth ≡ suc k �
         (took_one t ts (keyword (function_key f)) word) (of_function f (of_truth true)) (omega arith, tt) refl)
         (λ bracket opened. argument_begun f bracket.1 bracket.0 word opened)
 
-    -- behind the star of COUNT(*)
+    -- after the star of COUNT(*)
     starred : t.said ≡ keyword key.Count → (s : Lexed) (vs : Ahead) → Took ts (s ∷ vs) (symbol mark.LeftParen ∷ []) → s.said ≡ symbol mark.Star → (bracket : ℕ) (b : Bool)
         → IfBegun words (Fits 7) (t ∷ ts) (if b then refused (Some bracket) TooDeep else (symbol_at mark.RightParen vs >>= (λ closed. Ok (leaf t.start (e.CountRows t.start), closed.1))))
     starred word s vs opened star bracket true = tt

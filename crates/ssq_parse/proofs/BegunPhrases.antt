@@ -32,7 +32,7 @@ nothing = record { Form = Unit {0}; wrote = λ w. []; good = Always; one = tt; f
 abbrev pub word : Lexeme → Phrases
 word said = record { Form = Unit {0}; wrote = λ w. said ∷ []; good = Always; one = tt; fine = tt }
 
--- one behind the other
+-- one after the other
 abbrev pub both : Phrases → Phrases → Phrases
 both L M = record {
   Form = L.Form × M.Form;
@@ -128,7 +128,7 @@ module _ (L M : Phrases) (turn : Becomes L M) (tokens : Ahead) where
 pub tells_as : {A : Type 0} {L M : Phrases} {r : Ahead → Read A} → Becomes L M → Tells L r → Tells M r
 tells_as {L = L} {M = M} {r = r} turn t = record { told = λ tokens. told_as L M turn tokens (r tokens) (t.told tokens) }
 
--- ---- one behind the other
+-- ---- one after the other
 
 module _ (L M : Phrases) (tokens : Ahead) where
   begun_front : {refusal : Refusal} → BegunBy L tokens refusal → BegunBy (both L M) tokens refusal
@@ -195,7 +195,7 @@ if_symbol {L = L} s by none some_at = if_seen L (is_symbol s) (symbol s) (is_sym
 -- ---- lists with commas
 
 module _ {A : Type 0} (L : Phrases) (part : Ahead → Read A) (tells : Tells L part) where
-  -- what stands behind the first
+  -- what stands after the first
   abbrev other_words : List L.Form → Words
   other_words [] = []
   other_words (w ∷ ws) = comma ∷ separated (map L.wrote (w ∷ ws))

@@ -44,11 +44,11 @@ selects = record {
 abbrev ending : Phrases
 ending = both (both (word (keyword key.Output)) modes) (word semicolon)
 
--- behind a select's source
+-- after a select's source
 abbrev clauses : Phrases
 clauses = both joins (both (conditions key.Where) (both deduplicates (both groupings (both (conditions key.Having) (both orderings (both limits ending))))))
 
--- behind DISTINCT
+-- after DISTINCT
 abbrev parts : Phrases
 parts = both (listed items) (both (word (keyword key.From)) (both names clauses))
 
@@ -134,7 +134,7 @@ abbrev pub IfMade : Ahead → Made Query → Type 0
 IfMade tokens (Ok query) = Unit {0}
 IfMade tokens (Err refusal) = IfMissing refusal.cause refusal.at (Begun query_words (IsRegularQuery IsRegular) tokens refusal)
 
--- behind a whole query nothing stands
+-- after a whole query nothing stands
 alone_begun : (tokens : Ahead) (query : Query) (rest : Ahead) → Taken queries tokens rest → (at : Option ℕ) → IfMade tokens (alone query at rest)
 alone_begun tokens query rest t None = tt
 alone_begun tokens query rest t (Some at) =

@@ -97,7 +97,7 @@ watermarks_tell = if_keyword key.Watermark watermark_by (pure watermarks None tt
 abbrev pub semicolon : Lexeme
 semicolon = symbol mark.Semicolon
 
--- a declaration behind CREATE
+-- a declaration after CREATE
 abbrev created : Phrases
 created = record {
   Form = WrittenStream;

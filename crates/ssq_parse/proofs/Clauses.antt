@@ -122,7 +122,7 @@ quoted_sure tokens = record { holds = quoted_sound tokens }
 span_sure : (tokens : Ahead) → Sure (span_at tokens) (Spanned tokens)
 span_sure tokens = record { holds = span_sound tokens }
 
--- the places behind what was taken
+-- the places after what was taken
 pub onward : {u v : Ahead} {ws : Words} {places : List ℕ} → places ≡ starts u → Took u v ws → drop (length ws) places ≡ starts v
 onward {ws = ws} here took = ap (drop (length ws)) here ∙ took.left
 

@@ -74,7 +74,7 @@ module _ (many : ℕ) (o : UnaryOp) (depth : ℕ) (operand : Reader) (sound : So
 
 -- ---- operators between operands
 
--- behind an operand, and a word that is no bracket
+-- after an operand, and a word that is no bracket
 behind_word : {A : Type 0} (many : ℕ) {asked depth : ℕ} {start rest ts : Ahead} {left : Tree} {word : Lexeme} → Spelled asked depth start left rest → Took rest ts (word ∷ [])
     → open_behind word many ≡ many → (read : Read A) → Tells many ts read → Tells many start read
 behind_word many {start = start} {ts = ts} {word = word} sl took none read told =

@@ -1,4 +1,4 @@
--- Brackets of an expression are closed where it ends, and what is too deep behind more tokens is so.
+-- Brackets of an expression are closed where it ends, and what is too deep after more tokens is so.
 use Rattle.std.proofs.Common.{◌≡◌, ℕ, ◌+◌, ◌-◌, ap, ◌∙◌, arith, List, [], ◌∷◌, ◌++◌, refl, Option, Some, None, Ok, Err}
 use Rattle.ssq_ast.specs.declared.expr.BinaryOp.{BinaryOp}
 use Rattle.ssq_ast.specs.declared.expr.BinaryOp.TheVariants as op

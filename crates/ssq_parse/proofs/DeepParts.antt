@@ -84,7 +84,7 @@ interval_quiet at ts = quiet_then (span_at ts) (λ span. Ok (leaf at (e.Interval
 
 -- ---- brackets
 
--- a bracket at this place, and the tokens behind it
+-- a bracket at this place, and the tokens after it
 record Opens (opening rest : Ahead) (bracket : ℕ) : Type 0 where
   took : Took opening rest (symbol mark.LeftParen ∷ [])
   here : place opening ≡ Some bracket

@@ -1,4 +1,4 @@
--- How many brackets stand open behind what a reader takes, and that what it refuses as too deep is so.
+-- How many brackets stand open after what a reader takes, and that what it refuses as too deep is so.
 use Rattle.std.proofs.Common.{◌≡◌, ℕ, zero, suc, Bool, true, false, ap, ◌∙◌, List, [], ◌∷◌, ◌++◌, drop, length, refl, Option, Some, None, Ok, Err}
 use Rattle.std.specs.Prelude.{if◌then◌else◌}
 use Rattle.ssq_ast.specs.Expression.{Words, words}
@@ -20,7 +20,7 @@ use Rattle.ssq_parse.proofs.Primary.{name_sound, quoted_sound, span_sound}
 use Rattle.ssq_parse.proofs.Whole.{whole_sound}
 use Rattle.ssq_parse.proofs.Words.{took_none, took_one, took_more, is_keyword-found, is_symbol-found}
 
--- the words in front of the rest, where so many brackets stand open in front of them, and so many behind
+-- the words in front of the rest, where so many brackets stand open in front of them, and so many after
 pub record Leads (many more : ℕ) (tokens rest : Ahead) : Type 0 where
   pub front : Words
   pub took : Took tokens rest front

@@ -1,5 +1,5 @@
 -- What stands at the place of a fault is what its cause says: where the characters or the tokens end, what they end at; a token that is missing, and a text
--- that is no span or no time, stands behind words that begin a query, and is the first that no query has there; what is too deep is so.
+-- that is no span or no time, stands after words that begin a query, and is the first that no query has there; what is too deep is so.
 use Rattle.std.proofs.Common.{◌≡◌, ◌<◌, ◌≤◌, ℕ, Bool, true, false, ap, ◌∙◌, sym, subst, arith, List, [], ◌∷◌, ◌++◌, length, drop, refl, Option, Some, None, Result, Ok, Err}
 use Rattle.std.specs.Prelude.{IfErr, nat_lt, if◌then◌else◌}
 use Rattle.std.specs.Str.{is_utf8}

@@ -56,7 +56,7 @@ pub length-laid : (ws : Words) (p : Where) → length (laid ws p) ≡ length ws
 length-laid [] p = refl
 length-laid (w ∷ ws) p = ap suc (length-laid ws (next p))
 
--- ---- What may stand behind an expression. A word that can go on with one reaches so far: one above the level of its
+-- ---- What may stand after an expression. A word that can go on with one reaches so far: one above the level of its
 -- operator, and farther still where it goes on with a name.
 abbrev pub reach_of-keyword : Keyword → ℕ
 reach_of-keyword key.Or = 1

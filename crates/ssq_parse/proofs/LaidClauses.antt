@@ -88,7 +88,7 @@ declared_parts : (S W more : Words) (q : List ℕ)
     ≡ S ++ (symbol mark.RightParen ∷ keyword key.From ∷ quoted q ∷ (W ++ symbol mark.Semicolon ∷ more))
 declared_parts S W more q = simp append_assoc
 
--- behind STREAM, the name and a bracket
+-- after STREAM, the name and a bracket
 abbrev declared_rest : WrittenStream → Words → Words
 declared_rest s more = columns_of s ++ (symbol mark.RightParen ∷ keyword key.From ∷ quoted s.source ∷ (watermark_words s.watermark ++ symbol mark.Semicolon ∷ more))
 
@@ -175,7 +175,7 @@ item_reads (named_item value label) fit more end p =
     ∙ ap (λ from. Ok (item_of (tree value p.starts) (first p.starts) (ident label (drop 1 from)), laid more (next (next q)))) (sym (skip_starts (words value) p))
     ∙ ap (λ at. Ok (item_tree (named_item value label) p.starts, laid more at)) (sym (skip_more (words value) (keyword key.As ∷ name label ∷ []) p))
 
--- ---- what may stand behind the stream
+-- ---- what may stand after the stream
 
 pub condition_reads : (k : Keyword) (n : ℕ) → is_keyword k (keyword k) ≡ true → stage_of k + 1 ≤ n → (c : Option Written) → IfSome c IsFit → (more : Words) → Later n more → (p : Where)
     → condition_at k (laid (condition_words k c ++ more) p) ≡ Ok (option_map (λ c. condition_tree c p.starts) c, laid more (skip (condition_words k c) p))

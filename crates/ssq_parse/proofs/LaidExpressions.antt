@@ -36,7 +36,7 @@ module _ (depth : ℕ) where
   abbrev On : Tree × Ahead → Read Tree
   On left = compared depth (expr_at depth) (first_operator levels.Comparison left.1) left.0 left.1
 
-  -- what stands behind the left operand is read next
+  -- what stands after the left operand is read next
   compared_behind : (left : Written) (ws : Words) (p : Where) → Reads 4 Sum left → Stops 4 ws
       → Comparison (laid (words left ++ ws) p) ≡ On (made left p, laid ws (skip (words left) p))
   unfolding comparison_at

@@ -67,7 +67,7 @@ module _ (depth : ℕ) where
   abbrev Primary : Reader
   Primary = primary_at (suc depth) (expr_at (suc depth))
 
-  -- behind a bracket, what stands in it
+  -- after a bracket, what stands in it
   abbrev Inside : Written → Type 0
   Inside inner = Reads 0 (expr_at (suc depth)) inner
 

@@ -24,7 +24,7 @@ use Rattle.ssq_parse.proofs.Laid.{Where, next, skip, laid, skip_more, skip_start
 abbrev pub made : Written → Where → Tree
 made w p = tree_of (tree w p.starts) (first p.starts) (height w)
 
--- the reader reads it where no operator stands behind it that binds as tightly as this
+-- the reader reads it where no operator stands after it that binds as tightly as this
 abbrev pub Reads : ℕ → Reader → Written → Type 0
 Reads n reader w = (more : Words) → Stops n more → (p : Where) → reader (laid (words w ++ more) p) ≡ Ok (made w p, laid more (skip (words w) p))
 
@@ -53,7 +53,7 @@ risen_is at h below =
 
 -- ---- operators between operands
 
--- behind the words of the left operand, the operator and the right one
+-- after the words of the left operand, the operator and the right one
 pub behind_both : (o : BinaryOp) (left right : Written) (p : Where) → skip (words (infixed o left right)) p ≡ skip (words right) (next (skip (words left) p))
 behind_both o left right p = skip_more (words left) (binary_word o ∷ words right) p
 

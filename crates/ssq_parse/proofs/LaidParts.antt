@@ -61,7 +61,7 @@ module _ {A B : Type 0} (part : Ahead → Read B) (written : A → Words) (tree 
       ∙ ap (λ from. Ok (found ++ tree x p.starts ∷ each_tree written tree 1 (y ∷ xs) (drop 1 from), laid more (skip (All (y ∷ xs)) (next q)))) (sym (skip_starts (written x) p))
       ∙ ap (λ at. Ok (found ++ each_tree written tree 1 (x ∷ y ∷ xs) p.starts, laid more at)) (sym (skip_more (written x) (comma ∷ All (y ∷ xs)) p))
 
-  -- a word stands behind the list
+  -- a word stands after the list
   pub list_reads : (xs : List A) → IsFilled xs → Each Good xs → (more : Words) → 1 ≤ length more → End more → Other (is_symbol mark.Comma) more → (p : Where)
       → list_at part (laid (All xs ++ more) p) ≡ Ok (each_tree written tree 1 xs p.starts, laid more (skip (All xs) p))
   unfolding list_at
@@ -72,7 +72,7 @@ module _ {A B : Type 0} (part : Ahead → Read B) (written : A → Words) (tree 
       let same = length-map xs written in
       list_reads_from xs filled good more end other (length (laid (All xs ++ more) p)) (omega arith) [] p
 
--- ---- what stands behind the stream of a query: each part begins with its keyword, in this order
+-- ---- what stands after the stream of a query: each part begins with its keyword, in this order
 
 abbrev pub stage_of : Keyword → ℕ
 stage_of key.Inner = 1

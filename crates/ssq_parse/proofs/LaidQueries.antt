@@ -51,7 +51,7 @@ distinct_behind : (distinct : Bool) (ws : Words) (p : Where)
 distinct_behind true ws p = refl
 distinct_behind false ws p = refl
 
--- ---- what stands behind each part
+-- ---- what stands after each part
 
 limit_later : (l : Option ℤ) (more : Words) → Later 8 more → Later 7 (limit_words l ++ more)
 limit_later None more l = later more (omega arith) l
@@ -77,12 +77,12 @@ filter_later : (c : Option Written) (more : Words) → Later 3 more → Later 2 
 filter_later None more l = later more (omega arith) l
 filter_later (Some c) more l = (omega arith, omega arith)
 
--- parts one behind another, and more words behind them
+-- parts one after another, and more words after them
 abbrev onto : List Words → Words → Words
 onto [] more = more
 onto (part ∷ parts) more = part ++ onto parts more
 
--- the place behind parts, and the starts from there on
+-- the place after parts, and the starts from there on
 abbrev past : List Words → Where → Where
 past [] p = p
 past (part ∷ parts) p = past parts (skip part p)
@@ -119,7 +119,7 @@ module _ (s : WrittenSelect) (regular : IsRegularSelect IsFit s) (more : Words) 
   abbrev Shown : Words
   Shown = keyword key.Output ∷ keyword (mode_key s.mode) ∷ symbol mark.Semicolon ∷ more
 
-  -- what stands behind JOIN
+  -- what stands after JOIN
   abbrev Others : List Words
   Others =
       condition_words key.Where s.filter ∷ deduplicate_words s.deduplicate ∷ group_words s.group ∷ condition_words key.Having s.having ∷ order_words s.order ∷ limit_words s.limit ∷ []
@@ -170,7 +170,7 @@ module _ (s : WrittenSelect) (regular : IsRegularSelect IsFit s) (more : Words) 
     abbrev p3 : Where
     p3 = next (next p2)
 
-    -- the place of the k-th part behind JOIN
+    -- the place of the k-th part after JOIN
     abbrev at_part : ℕ → Where
     at_part k = past (take k Others) (skip (join_words s.join) p3)
 

@@ -1,4 +1,4 @@
--- A reader looks no further than one token behind what it takes.
+-- A reader looks no further than one token after what it takes.
 use Rattle.std.proofs.Common.{◌≡◌, ℕ, sym, ap, subst, ◌∙◌, [], ◌∷◌, ◌++◌, drop, refl, Option, Some, None, Ok, Err, append_assoc}
 use Rattle.std.proofs.lemmas.List.{map-append}
 use Rattle.ssq_ast.specs.Expression.{Words}
@@ -19,7 +19,7 @@ pub record Seen {A : Type 0} (reader : Ahead → Read A) (tokens rest : Ahead) (
   pub whole : tokens ≡ taken ++ rest
   pub same : (others : Ahead) → next rest ≡ next others → reader (taken ++ others) ≡ answer others
 
--- a text that is refused is not what it has to be behind the word in front of it
+-- a text that is refused is not what it has to be after the word in front of it
 abbrev pub IfBad : ParseCause → Ahead → Ahead → Type 0
 IfBad cause.BadText taken rest = IsBadNext (last_word (says taken)) (next_word (says rest))
 IfBad other taken rest = Unit {0}
@@ -138,7 +138,7 @@ pub made_local : {A : Type 0} (made : Made A) → Unexpected made → Local (bef
 made_local (Ok x) never = pure x
 made_local (Err refusal) never = record { told = λ tokens. if_missing refusal.cause refusal.at (λ no. absurd no) never }
 
--- the same reader behind a token
+-- the same reader after a token
 abbrev behind_seen : {A : Type 0} (r s : Ahead → Read A) (t : Lexed) (ts rest : Ahead) (answer : Ahead → Read A)
     → ((us : Ahead) → s (t ∷ us) ≡ r us) → Seen r ts rest answer → Seen s (t ∷ ts) rest answer
 behind_seen r s t ts rest answer as_r seen = record {
@@ -164,7 +164,7 @@ skip_told r l (t ∷ ts) = behind_told r (λ us. r (drop 1 us)) t ts (r ts) (λ 
 pub skip : {A : Type 0} {r : Ahead → Read A} → Local r → Local (λ tokens. r (drop 1 tokens))
 skip {r = r} l = record { told = skip_told r l }
 
--- ---- one reader behind another
+-- ---- one reader after another
 
 module _ {A B : Type 0} (r : Ahead → Read A) (f : A × Ahead → Read B) (tokens : Ahead) where
   abbrev joined : (found : A × Ahead) → Seen r tokens found.1 (λ others. Ok (found.0, others)) → (rest : Ahead) (answer : Ahead → Read B)
@@ -200,7 +200,7 @@ pub followed : {A B : Type 0} {r : Ahead → Read A} {f : A → Ahead → Read B
     → Local (λ tokens. r tokens >>= (λ found. f found.0 found.1))
 followed {r = r} {f = f} l more = record { told = λ tokens. then_told r (λ found. f found.0 found.1) tokens (r tokens) (l.told tokens) (λ found s. (more found.0).told found.1) }
 
--- nothing stands behind what is missing
+-- nothing stands after what is missing
 pub nothing_then : {A B : Type 0} (f : A × Ahead → Read B) → Local (λ tokens. expected tokens >>= f)
 nothing_then f = record { told = nothing.told }
 

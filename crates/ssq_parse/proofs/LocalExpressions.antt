@@ -149,7 +149,7 @@ module _ (depth : ℕ) (inner : Reader) (il : Local inner) where
       (λ star. deep_or _ bracket (depth == 0) (skip (followed (symbol_local mark.RightParen) (λ closed. pure _)))))
 
   module _ (t : Lexed) (ts : Ahead) where
-    -- what stands behind the first token
+    -- what stands after the first token
     abbrev Behind : Reader → Type 0
     Behind r = Told (λ us. r (drop 1 us)) (t ∷ ts) (r ts)
 
@@ -176,7 +176,7 @@ module _ (depth : ℕ) (inner : Reader) (il : Local inner) where
     word_told (symbol mark.LeftParen) is = skip_told _ (bracketed_local t.start) (t ∷ ts)
     word_told (symbol other) is = none_begins
 
-  -- by the first token and those behind it
+  -- by the first token and those after it
   abbrev primary_from : Option Lexed → Reader
   primary_from None tokens = refused None Expected
   primary_from (Some t) tokens = primary_by depth inner t.said t.start (drop 1 tokens)

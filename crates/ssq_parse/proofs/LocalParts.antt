@@ -40,7 +40,7 @@ pub number_local : Local number_at
 unfolding number_at
 number_local = needs (λ token. number_by token.said)
 
--- ---- a text that says a span or a time, behind a word that asks for one
+-- ---- a text that says a span or a time, after a word that asks for one
 
 module _ {A : Type 0} (made : ℕ → List ℕ → Made A) (t : Lexed) where
   -- a text that is not what it has to be is refused where it stands
@@ -110,7 +110,7 @@ module _ {A : Type 0} (made : ℕ → List ℕ → Made A) (t : Lexed) where
       by_found None is = as_local ts None (λ us. expected us >>= made_of) (nothing_then made_of) is (λ us. refl)
       by_found (Some found) is = by_made found is (made found.0 found.1) refl
 
--- behind this token a text has to be a span, or a time
+-- after this token a text has to be a span, or a time
 abbrev pub Asks : (List ℕ → Option ℤ) → Lexed → Type 0
 Asks of t = (text : List ℕ) → of text ≡ None → IsBadBehind (Some t.said) text
 

@@ -36,7 +36,7 @@ unfolding slide_at
 slide_local = maybe_at (λ token. if is_symbol mark.Comma token.said then Some token.start else None) slide_by (pure _)
     (λ at t ts is. span_then (λ span us. Ok (Some span, us)) (λ span. pure _) t (comma_asks at t is) ts)
 
--- behind the size of a window
+-- after the size of a window
 abbrev sized : ℕ → Ident → Span → Ahead → Read Window
 sized at column size tokens = do
   slide ← slide_at tokens
@@ -46,7 +46,7 @@ sized at column size tokens = do
 sized_local : (at : ℕ) (column : Ident) (size : Span) → Local (sized at column size)
 sized_local at column size = followed slide_local (λ slide. followed (symbol_local mark.RightParen) (λ closed. pure _))
 
--- a comma, and the size behind it
+-- a comma, and the size after it
 abbrev comma_at : ℕ → Ident → Ahead → Read Window
 comma_at at column tokens = symbol_at mark.Comma tokens >>= (λ comma. span_at comma.1 >>= (λ size. sized at column size.0 size.1))
 

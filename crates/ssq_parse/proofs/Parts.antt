@@ -28,7 +28,7 @@ keep (Err refusal) holds more = tt
 
 module _ {W A : Type 0} (wrote : W → Words) (made : W → List ℕ → A) (good : W → Type 0) (part : Ahead → Read A)
     (sound : (tokens : Ahead) → IfRead (part tokens) (Part wrote made good tokens)) where
-  -- parts behind those that were found before
+  -- parts after those that were found before
   pub record Further (found : List A) (tokens : Ahead) (read : List A × Ahead) : Type 0 where
     pub first : W
     pub others : List W

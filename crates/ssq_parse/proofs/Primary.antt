@@ -127,7 +127,7 @@ module _ (depth : ℕ) (inner : Reader) (sound : (k : ℕ) → depth ≡ suc k �
   abbrev Fine : Tree × Ahead → Type 0
   Fine found = Spelled 7 depth (t ∷ ts) found.0 found.1
 
-  -- behind the star of COUNT(*)
+  -- after the star of COUNT(*)
   starred : t.said ≡ keyword key.Count → (s : Lexed) (vs : Ahead) → Took ts (s ∷ vs) (symbol mark.LeftParen ∷ []) → s.said ≡ symbol mark.Star
       → (bracket : ℕ) (b : Bool) → (depth == 0) ≡ b
       → IfRead (if b then refused (Some bracket) TooDeep else (symbol_at mark.RightParen vs >>= (λ closed. Ok (leaf t.start (e.CountRows t.start), closed.1)))) Fine

@@ -1,4 +1,4 @@
--- What holds of the readers of words, and of a reader behind another, holds of the readers of a query.
+-- What holds of the readers of words, and of a reader after another, holds of the readers of a query.
 use Rattle.std.proofs.Common.{◌≡◌, ℕ, Bool, true, false, ap, [], drop, refl, Option, Some, None, Ok}
 use Rattle.ssq_ast.specs.declared.expr.Expr.{Expr}
 use Rattle.ssq_ast.specs.declared.expr.Expr.TheVariants as expr
@@ -43,7 +43,7 @@ order_item_none = refl
 
 -- ---- readers of a kind
 
--- Readers that are read where so many brackets stand open, and so many behind them; `Behind` says the same where a word
+-- Readers that are read where so many brackets stand open, and so many after them; `After` says the same where a word
 -- that is no bracket stands in front.
 pub record Family (Is Behind : (A : Type 0) → ℕ → ℕ → (Ahead → Read A) → Type 0) : Type 1 where
   pub pure : {A : Type 0} {many : ℕ} (x : A) → Is A many many (λ tokens. Ok (x, tokens))
@@ -113,7 +113,7 @@ module _ (Is Behind : (A : Type 0) → ℕ → ℕ → (Ahead → Read A) → Ty
   item_is = family.if_sees is_name (λ named tokens. whole_at tokens >>= (λ value. item_by named value.0 (seen (is_keyword key.As) value.1) value.1))
       (λ named. family.followed family.whole (λ tree. family.if_keyword key.As (item_by named tree) (bare_is named tree.value tree.at) (λ at. family.skip (family.followed family.name (λ label. family.pure _)))))
 
-  -- ---- what stands behind the items
+  -- ---- what stands after the items
 
   condition_is : (k : Keyword) → Is _ 0 0 (condition_at k)
   unfolding condition_at

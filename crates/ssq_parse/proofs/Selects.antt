@@ -37,7 +37,7 @@ use Rattle.ssq_parse.proofs.Whole.{whole_sound}
 use Rattle.ssq_parse.proofs.Operands.{symbol_sound}
 use Rattle.ssq_parse.proofs.Words.{took_none, took_one, took_more, is_keyword-found}
 
--- ---- declarations, one behind the other
+-- ---- declarations, one after the other
 
 record Streams (found : List Stream) (tokens : Ahead) (read : List Stream × Ahead) : Type 0 where
   pub written : List WrittenStream

@@ -1,4 +1,4 @@
--- Words that begin a query: the grammar has more words behind which they are one, however many brackets stand open in it and however high
+-- Words that begin a query: the grammar has more words after which they are one, however many brackets stand open in it and however high
 -- its trees are.
 use Rattle.std.specs.Prelude.{◌≡◌, ℕ, List, ◌++◌, length, slice_get, Option, Some, None}
 use Rattle.ssq_ast.specs.Expression.{Words, IsRegular}

@@ -11,13 +11,13 @@ use Rattle.ssq_lex.specs.Lexeme.{Lexeme, keyword, symbol}
 use Rattle.ssq_parse.specs.Reading.{Ahead, place}
 use Rattle.ssq_parse.specs.Written.{says, starts, Took}
 
--- how many brackets stand open behind a word, where so many do in front of it
+-- how many brackets stand open after a word, where so many do in front of it
 abbrev pub open_behind : Lexeme → ℕ → ℕ
 open_behind (symbol s) many =
     if sameb symbol_type s mark.LeftParen then many + 1 else (if sameb symbol_type s mark.RightParen then many - 1 else many)
 open_behind other many = many
 
--- how many stand open behind these words
+-- how many stand open after these words
 abbrev pub open_after : ℕ → Words → ℕ
 open_after many [] = many
 open_after many (w ∷ ws) = open_after (open_behind w many) ws
@@ -49,7 +49,7 @@ pub record RisesTooHigh (start : Ahead) (at : ℕ) : Type 0 where
   pub high : height written ≡ 65
   pub here : operator_place (tree written (starts start)) ≡ Some at
 
--- IS at this place, behind an operand 64 high: it counts at once, whatever stands behind it
+-- IS at this place, after an operand 64 high: it counts at once, whatever stands after it
 pub record TestsTooHigh (start : Ahead) (at : ℕ) : Type 0 where
   pub operand : Written
   pub rest : Ahead

@@ -56,7 +56,7 @@ prefixed op operand tokens = do
 
 -- ---- operands without brackets
 
--- a name, or a name behind that of its stream
+-- a name, or a name after that of its stream
 abbrev pub column_by : Ident → Option ℕ → Reader
 column_by first None tokens = Ok (leaf first.at (e.Column (record { stream = None; column = first })), tokens)
 column_by first (Some dot) tokens = do
@@ -76,14 +76,14 @@ interval_at at tokens = do
   span ← span_at tokens
   Ok (leaf at (e.Interval span.0 at), span.1)
 
--- what IS asks, by the NOT behind it
+-- what IS asks, by the NOT after it
 abbrev pub test_by : Option ℕ → NullTest
 test_by None = test.Null
 test_by (Some at) = test.NotNull
 
 -- The number says how many brackets more may stand open, and the reader reads what stands in the next one.
 module _ (depth : ℕ) (inner : Reader) where
-  -- behind a bracket at this place
+  -- after a bracket at this place
   unfoldable pub inside_at : ℕ → Reader
   inside_at bracket tokens = if depth == 0 then refused (Some bracket) TooDeep else inner tokens
 

@@ -30,8 +30,8 @@ abbrev pub next_word : Words → Option Lexeme
 next_word [] = None
 next_word (w ∷ ws) = Some w
 
--- No query has this token behind those in front of it: no tokens are a query whose words begin with those in front of it and
--- go on with this one, whatever stands behind it and wherever the words stand. At the file's end, none are a query whose
+-- No query has this token after those in front of it: no tokens are a query whose words begin with those in front of it and
+-- go on with this one, whatever stands after it and wherever the words stand. At the file's end, none are a query whose
 -- words are these.
 pub record IsFirst (file : List ℕ) (at : ℕ) : Type 0 where
   pub taken : Ahead
@@ -52,7 +52,7 @@ last_word [] = None
 last_word (w ∷ []) = Some w
 last_word (w ∷ v ∷ ws) = last_word (v ∷ ws)
 
--- The text is no span of time behind DELAY, INTERVAL or a comma, or no time behind TIMESTAMP. Where the grammar has some text, but not this one, the
+-- The text is no span of time after DELAY, INTERVAL or a comma, or no time after TIMESTAMP. Where the grammar has some text, but not this one, the
 -- comma is one in WINDOW, and TIMESTAMP begins a literal.
 abbrev pub IsBadBehind : Option Lexeme → List ℕ → Type 0
 IsBadBehind (Some (keyword key.Delay)) text = span_of text ≡ None
@@ -61,7 +61,7 @@ IsBadBehind (Some (symbol mark.Comma)) text = span_of text ≡ None
 IsBadBehind (Some (keyword key.Timestamp)) text = time_of text ≡ None
 IsBadBehind other text = ⊥
 
--- the next word is a text, and is no such span or time behind the word in front of it
+-- the next word is a text, and is no such span or time after the word in front of it
 abbrev pub IsBadNext : Option Lexeme → Option Lexeme → Type 0
 IsBadNext front (Some (quoted text)) = IsBadBehind front text
 IsBadNext front other = ⊥
@@ -100,7 +100,7 @@ pub record BeginsTooGreat (bytes : List ℕ) : Type 0 where
   pub digit : is_ascii_digit (slice_index bytes 0) ≡ true
   pub great : 2 ^ 63 ≤ digits_value 10 (take (prefix_len is_ascii_digit bytes) bytes)
 
--- a quote opens a text that has no end: behind no text in which each quote is doubled stands a single one
+-- a quote opens a text that has no end: after no text in which each quote is doubled stands a single one
 pub record BeginsOpen (bytes : List ℕ) : Type 0 where
   pub opens : slice_index bytes 0 ≡ 39
   pub endless : (text rest : List ℕ) → bytes ≡ 39 ∷ doubled text ++ 39 ∷ rest → slice_index rest 0 ≢ 39 → ⊥

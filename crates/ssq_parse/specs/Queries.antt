@@ -43,7 +43,7 @@ abbrev pub list_then : {A : Type 0} → (List A → Ahead → Read (List A)) →
 list_then more found None tokens = Ok (found, tokens)
 list_then more found (Some comma) tokens = more found (drop 1 tokens)
 
--- behind the parts that were found
+-- after the parts that were found
 unfoldable pub list_from : {A : Type 0} → (Ahead → Read A) → ℕ → List A → Ahead → Read (List A)
 list_from part zero found tokens = expected tokens
 list_from part (suc turns) found tokens = do
@@ -85,7 +85,7 @@ watermark_by (Some at) tokens = do
 unfoldable pub watermark_at : Ahead → Read (Option Watermark)
 watermark_at tokens = watermark_by (seen (is_keyword key.Watermark) tokens) tokens
 
--- behind CREATE
+-- after CREATE
 unfoldable pub stream_at : ℕ → Ahead → Read Stream
 stream_at at tokens = do
   declared ← keyword_at key.Stream tokens
@@ -137,7 +137,7 @@ item_at tokens = do
   value ← whole_at tokens
   item_by (sees is_name tokens) value.0 (seen (is_keyword key.As) value.1) value.1
 
--- ---- what stands behind the items
+-- ---- what stands after the items
 
 abbrev pub condition_by : Option ℕ → Ahead → Read (Option Condition)
 condition_by None tokens = Ok (None, tokens)
@@ -197,7 +197,7 @@ slide_by (Some at) tokens = span_at (drop 1 tokens) >>= (λ found. Ok (Some foun
 unfoldable pub slide_at : Ahead → Read (Option Span)
 slide_at tokens = slide_by (seen (is_symbol mark.Comma) tokens) tokens
 
--- behind WINDOW
+-- after WINDOW
 unfoldable pub window_at : ℕ → Ahead → Read Window
 window_at at tokens = do
   opened ← symbol_at mark.LeftParen tokens
@@ -267,7 +267,7 @@ mode_at tokens = keyword_at key.Output tokens >>= (λ output. mode_by output.1)
 
 -- ---- queries
 
--- behind SELECT and DISTINCT
+-- after SELECT and DISTINCT
 abbrev pub select_from : Option ℕ → Ahead → Read Select
 select_from distinct tokens = do
   items ← list_at item_at tokens
@@ -304,7 +304,7 @@ select_at tokens = do
   word ← keyword_at key.Select tokens
   select_from (seen (is_keyword key.Distinct) word.1) (behind (seen (is_keyword key.Distinct) word.1) word.1)
 
--- nothing stands behind a query
+-- nothing stands after a query
 abbrev pub alone : Query → Option ℕ → Ahead → Made Query
 alone query None tokens = Ok query
 alone query (Some at) tokens = expected tokens

@@ -1,4 +1,4 @@
--- How tokens are read from the left: a value and the tokens behind it, or the first fault.
+-- How tokens are read from the left: a value and the tokens after it, or the first fault.
 use Rattle.std.specs.Prelude.{◌≡◌, ℕ, ℤ, Bool, true, false, if◌then◌else◌, List, [], ◌∷◌, drop, Option, Some, None, is_some, Result, Ok, Err}
 use denote.Enum.Bare.{sameb}
 use Rattle.ssq_ast.specs.declared.expr.BinaryOp.{BinaryOp}
@@ -75,7 +75,7 @@ abbrev pub first : {A : Type 0} → (Lexed → Option A) → Ahead → Option A
 first is [] = None
 first is (token ∷ tokens) = is token
 
--- the tokens behind the next, if that one is taken
+-- the tokens after the next, if that one is taken
 abbrev pub behind : {A : Type 0} → Option A → Ahead → Ahead
 behind None tokens = tokens
 behind (Some x) tokens = drop 1 tokens

@@ -48,7 +48,7 @@ fn too_deep(at: usize) -> Stop
     }
 }
 
-/// The tree of an operand behind the operators that stand before it.
+/// The tree of an operand after the operators that stand before it.
 fn wrapped(alloc: Global, op: UnaryOp, tokens: &[Token<'_>], operand: Tree) -> Result<Tree, Stop>
     ensures { Makes (wrapped op (map lexed tokens.now) operand) result }
 {
@@ -61,7 +61,7 @@ fn wrapped(alloc: Global, op: UnaryOp, tokens: &[Token<'_>], operand: Tree) -> R
     Ok(tree)
 }
 
-/// An operand, and those behind it with an operator of the level in front of each, grouped to the left. No tree is higher than
+/// An operand, and those after it with an operator of the level in front of each, grouped to the left. No tree is higher than
 /// [`MOST_HEIGHT`], so there are fewer operators.
 fn chain<F: Fn(&mut Reader<'_>) -> Result<Tree, Stop>>(
     alloc: Global,
@@ -83,7 +83,7 @@ fn chain<F: Fn(&mut Reader<'_>) -> Result<Tree, Stop>>(
     Ok(left)
 }
 
-/// A column behind its name or that of its stream.
+/// A column after its name or that of its stream.
 #[tactic(auto, unfolding(crate::specs::Expressions::column_at))]
 fn column(alloc: Global, reader: &mut Reader<'_>, name: Ident) -> Result<Tree, Stop>
     ensures { Reads (spec.column_at name reader.old) result reader.new }
@@ -114,7 +114,7 @@ fn interval(alloc: Global, reader: &mut Reader<'_>, at: usize) -> Result<Tree, S
 }
 
 impl<F: Fn(Global, &mut Reader<'_>, usize) -> Result<Tree, Stop>> Grammar<F> {
-    /// What stands behind a bracket at this place.
+    /// What stands after a bracket at this place.
     #[tactic(auto, unfolding(crate::specs::Expressions::inside_at))]
     fn inside(&self, reader: &mut Reader<'_>, bracket: usize) -> Result<Tree, Stop>
         requires { Nests self.now.depth (F.pre self.now.inner) (F.post self.now.inner) }

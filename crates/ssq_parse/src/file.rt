@@ -46,7 +46,7 @@ fn ended(len: usize, fault: Option<Refusal>) -> ParseFault
     }
 }
 
-/// What the tokens of a file are, with the fault behind them.
+/// What the tokens of a file are, with the fault after them.
 fn judged(
     len: usize,
     fault: Option<Refusal>,

@@ -95,7 +95,7 @@ fn watermark(alloc: Global, reader: &mut Reader<'_>) -> Result<Option<Watermark>
     Ok(Some(Watermark { column, delay }))
 }
 
-/// What stands behind CREATE.
+/// What stands after CREATE.
 #[tactic(auto, unfolding(crate::specs::Queries::stream_at))]
 fn stream(alloc: Global, reader: &mut Reader<'_>, at: usize) -> Result<Stream, Stop>
     ensures { Reads (spec.stream_at at reader.old) result reader.new }
@@ -202,7 +202,7 @@ impl Part for Item {
     }
 }
 
-/// The condition behind a keyword, if that stands there.
+/// The condition after a keyword, if that stands there.
 #[tactic(auto, unfolding(crate::specs::Queries::condition_at))]
 fn condition(
     alloc: Global,
@@ -218,7 +218,7 @@ fn condition(
     Ok(Some(Condition { at, value }))
 }
 
-/// What stands behind the words of a join, from JOIN on.
+/// What stands after the words of a join, from JOIN on.
 #[tactic(auto, unfolding(crate::specs::Queries::joined_at))]
 fn joined(alloc: Global, reader: &mut Reader<'_>, kind: JoinKind) -> Result<Option<Join>, Stop>
     ensures { Reads (spec.joined_at kind reader.old) result reader.new }
@@ -278,7 +278,7 @@ fn slide(alloc: Global, reader: &mut Reader<'_>) -> Result<Option<Span>, Stop>
     Ok(Some(reader.span(alloc)?))
 }
 
-/// What stands behind WINDOW.
+/// What stands after WINDOW.
 #[tactic(auto, unfolding(crate::specs::Queries::window_at))]
 fn window(alloc: Global, reader: &mut Reader<'_>, at: usize) -> Result<Window, Stop>
     ensures { Reads (spec.window_at at reader.old) result reader.new }
@@ -417,7 +417,7 @@ fn select(alloc: Global, reader: &mut Reader<'_>) -> Result<Select, Stop>
     })
 }
 
-/// A query, and no token behind it.
+/// A query, and no token after it.
 #[tactic(auto, unfolding(crate::specs::Queries::query_at))]
 pub(crate) fn query(alloc: Global, reader: &mut Reader<'_>) -> Result<Query, Stop>
     ensures { Makes (spec.query_at reader.old) result }

@@ -16,7 +16,7 @@ lines-next : {X : Type 0} (spelled : ℕ → X → List ℕ) (out : List ℕ) (a
 unfolding lines
 lines-next spelled out at xs x h e = rw (add-one, drop-cons xs at x, add-one, ← e) (append_assoc out _ _)
 
--- behind the last line nothing is left to write
+-- after the last line nothing is left to write
 lines-end : {X : Type 0} (spelled : ℕ → X → List ℕ) (out : List ℕ) (at : ℕ) (xs : List X) → length xs ≤ at → out ++ lines spelled at (drop at xs) ≡ out
 unfolding lines
 lines-end spelled out at xs h = rw (drop_all at xs h) (append-nil out)

@@ -22,7 +22,7 @@ tail_len front digits rest text is =
 pub part_is : (p : PartEnd) (stream part end : ℕ) → stream ≡ p.stream → part ≡ p.part → end ≡ p.end → (let made : PartEnd = record { stream = stream; part = part; end = end } in made) ≡ p
 part_is p stream part end s i e = rw (s, i, e) refl
 
--- a part's line is what its numbers were found in, one behind the other
+-- a part's line is what its numbers were found in, one after the other
 pub part_joined : (p : PartEnd) (text part end rest : List ℕ) → text ≡ codes "part " ++ (decimal p.stream ++ part) → part ≡ codes " " ++ (decimal p.part ++ end) → end ≡ codes " " ++ (decimal p.end ++ (codes "\n" ++ rest)) → text ≡ part_line p ++ rest
 part_joined p text part end rest h1 h2 h3 = rw (h1, h2, h3) (sym (part_split p rest))
 
@@ -51,7 +51,7 @@ parts_8 a b c d e f g h = simp append_assoc
 parts_10 : (a b c d e f g h i j : List ℕ) → a ++ b ++ c ++ d ++ e ++ f ++ g ++ h ++ i ++ j ≡ a ++ (b ++ (c ++ (d ++ (e ++ (f ++ (g ++ (h ++ (i ++ j))))))))
 parts_10 a b c d e f g h i j = simp append_assoc
 
--- a line that was put behind what stood there
+-- a line that was put after what stood there
 pub line_put : (held a b c : List ℕ) → held ++ (a ++ b ++ c) ≡ held ++ a ++ b ++ c
 line_put held a b c = simp append_assoc
 
@@ -118,7 +118,7 @@ query_joined text rest query end shown len h1 h2 h3 h4 h5 = rw (h1, h2, h3, h5, 
 pub seen_split : (s : SeenBy) (rest : List ℕ) → seen_line s ++ rest ≡ codes "seen " ++ (decimal s.stream ++ (codes " " ++ (time_or_none s.time ++ (codes "\n" ++ rest))))
 seen_split s rest = simp append_assoc
 
--- a stream's line is what its values were found in, one behind the other
+-- a stream's line is what its values were found in, one after the other
 pub seen_joined : (s : SeenBy) (text stop rest : List ℕ) (stream : ℕ) (time : Option ℤ) → stream ≡ s.stream → time ≡ s.time → text ≡ codes "seen " ++ (decimal stream ++ stop) → stop ≡ codes " " ++ (time_or_none time ++ (codes "\n" ++ rest)) → text ≡ seen_line s ++ rest
 seen_joined s text stop rest stream time e t h1 h2 = rw (h1, h2, e, t) (sym (seen_split s rest))
 

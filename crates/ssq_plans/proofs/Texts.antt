@@ -12,7 +12,7 @@ use Rattle.ssq_plans.specs.Names.{text_of, AreTextsApart}
 pub same_rest : (front text rest other : List ℕ) → text ≡ front ++ rest → text ≡ front ++ other → rest ≡ other
 same_rest front text rest other is of = append_cancel_left front rest other (sym is ∙ of)
 
--- a number that is all that follows the front has nothing behind it
+-- a number that is all that follows the front has nothing after it
 pub nothing_behind : (front text : List ℕ) (n : ℕ) → text ≡ front ++ decimal n → text ≡ front ++ (decimal n ++ [])
 nothing_behind front text n is = is ∙ ap (λ (digits : List ℕ). front ++ digits) (sym (append-nil (decimal n)))
 

@@ -3,7 +3,7 @@ use Rattle.std.proofs.Common.{◌≡◌, ◌≢◌, ℕ, ◌+◌, ◌/◌, ◌%�
 use Rattle.std.specs.Prelude.{nat_lt}
 use Rattle.ssq_time.specs.Time.{stamp_text, parts_text, second_text, two_digits, stamp_of, day_at_head, two_at, digit_of}
 
--- Behind the seconds stands `Z`, and then 20 bytes are the text, or a point, and then 27 are.
+-- After the seconds stands `Z`, and then 20 bytes are the text, or a point, and then 27 are.
 abbrev HasLength : List ℕ → List ℕ → Type 0
 HasLength text rest = ((get_or (text ++ rest) 19 0 ≡ 90) × (length text ≡ 20)) ⊎ ((get_or (text ++ rest) 19 0 ≡ 46) × (length text ≡ 27))
 

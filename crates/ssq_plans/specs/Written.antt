@@ -10,6 +10,6 @@ pub record Written : Type 0 where
 abbrev pub Holds : Written → List ℕ → Type 0
 Holds written bytes = IsTrue written.is_whole → written.bytes ≡ bytes
 
--- whatever it held before, behind it stand these bytes
+-- whatever it held before, after it stand these bytes
 abbrev pub Adds : Written → List ℕ → Written → Type 0
 Adds before bytes after = (held : List ℕ) → Holds before held → Holds after (held ++ bytes)

@@ -35,7 +35,7 @@ fn number_and_rest(text: &[u8]) -> Option<(u64, &[u8])>
     Some((number, &text[taken..]))
 }
 
-/// The number behind these bytes in front, and what follows its digits.
+/// The number after these bytes in front, and what follows its digits.
 pub(crate) fn long_after<'a>(text: &'a [u8], front: &[u8]) -> Option<(u64, &'a [u8])>
     ensures found { IfSome result (λ parts. text.now ≡ front.now ++ (decimal parts.0 ++ parts.1.now)) }
     ensures each { (n : ℕ) (rest : List ℕ) → n < 2 ^ 64 → NoDigit rest → text.now ≡ front.now ++ (decimal n ++ rest) →
@@ -44,7 +44,7 @@ pub(crate) fn long_after<'a>(text: &'a [u8], front: &[u8]) -> Option<(u64, &'a [
     number_and_rest(after(text, front)?)
 }
 
-/// The number of 32 bits behind these bytes in front, and what follows its digits.
+/// The number of 32 bits after these bytes in front, and what follows its digits.
 pub(crate) fn short_after<'a>(text: &'a [u8], front: &[u8]) -> Option<(u32, &'a [u8])>
     ensures found { IfSome result (λ parts. text.now ≡ front.now ++ (decimal parts.0 ++ parts.1.now)) }
     ensures each { (n : ℕ) (rest : List ℕ) → n < 2 ^ 32 → NoDigit rest → text.now ≡ front.now ++ (decimal n ++ rest) →
@@ -57,7 +57,7 @@ pub(crate) fn short_after<'a>(text: &'a [u8], front: &[u8]) -> Option<(u32, &'a 
     }
 }
 
-/// The number that is the rest of a line behind these bytes in front, and what follows that line.
+/// The number that is the rest of a line after these bytes in front, and what follows that line.
 pub(crate) fn long_line_after<'a>(text: &'a [u8], front: &[u8]) -> Option<(u64, &'a [u8])>
     ensures found { IfSome result (λ parts. text.now ≡ front.now ++ (decimal parts.0 ++ (codes "\n" ++ parts.1.now))) }
     ensures each { (n : ℕ) (rest : List ℕ) → n < 2 ^ 64 → text.now ≡ front.now ++ (decimal n ++ (codes "\n" ++ rest)) →
@@ -68,7 +68,7 @@ pub(crate) fn long_line_after<'a>(text: &'a [u8], front: &[u8]) -> Option<(u64, 
     Some((number, rest))
 }
 
-/// The number of 32 bits that is the rest of a line behind these bytes in front, and what follows that line.
+/// The number of 32 bits that is the rest of a line after these bytes in front, and what follows that line.
 pub(crate) fn short_line_after<'a>(text: &'a [u8], front: &[u8]) -> Option<(u32, &'a [u8])>
     ensures found { IfSome result (λ parts. text.now ≡ front.now ++ (decimal parts.0 ++ (codes "\n" ++ parts.1.now))) }
     ensures each { (n : ℕ) (rest : List ℕ) → n < 2 ^ 32 → text.now ≡ front.now ++ (decimal n ++ (codes "\n" ++ rest)) →
@@ -110,7 +110,7 @@ fn stamp_and_rest(text: &[u8]) -> Option<(i64, &[u8])>
     Some((time, rest))
 }
 
-/// The time or `none` that is the rest of a line behind these bytes in front, and what follows that line.
+/// The time or `none` that is the rest of a line after these bytes in front, and what follows that line.
 pub(crate) fn time_line_after<'a>(text: &'a [u8], front: &[u8]) -> Option<(Option<i64>, &'a [u8])>
     ensures found { IfSome result (λ parts. text.now ≡ front.now ++ (time_or_none parts.0 ++ (codes "\n" ++ parts.1.now))) }
     ensures in_range { IfSome result (λ parts. ForSome parts.0 IsStampTime) }

@@ -7,6 +7,6 @@ pub struct PartEnd {
     pub stream: u32,
     /// The part's place in its stream, from 0.
     pub part: u32,
-    /// The line behind the last that is to be read.
+    /// The line after the last that is to be read.
     pub end: u64,
 }

@@ -44,7 +44,7 @@ impl Writer {
         self.is_whole = self.is_whole && self.out.extend_from_slice(bytes).is_ok();
     }
 
-    /// Appends these bytes, and the number behind them.
+    /// Appends these bytes, and the number after them.
     pub fn put_number(&mut self, front: &[u8], number: u64)
         ensures { Adds self.old (front.now ++ decimal number) self.new }
     {
@@ -52,7 +52,7 @@ impl Writer {
         self.is_whole = self.is_whole && put_decimal_to(&mut self.out, number).is_ok();
     }
 
-    /// Appends these bytes, and the number behind them that is the rest of their line.
+    /// Appends these bytes, and the number after them that is the rest of their line.
     pub fn put_number_line(&mut self, front: &[u8], number: u64)
         ensures { Adds self.old (front.now ++ decimal number ++ codes "\n") self.new }
     {
@@ -73,7 +73,7 @@ impl Writer {
         }
     }
 
-    /// Appends these bytes, and behind them a time of the years 0001 to 9999, in microseconds since 1970-01-01T00:00:00Z, or `none`.
+    /// Appends these bytes, and after them a time of the years 0001 to 9999, in microseconds since 1970-01-01T00:00:00Z, or `none`.
     pub fn put_time(&mut self, front: &[u8], time: Option<i64>)
         requires { ForSome time IsStampTime }
         ensures { Adds self.old (front.now ++ time_or_none time) self.new }

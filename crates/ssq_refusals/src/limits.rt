@@ -22,7 +22,7 @@ fn push_part(text: &mut String, part: &str, number: usize) -> Result<(), AllocEr
     Ok(())
 }
 
-/// The parts one behind the other, each so many times, with the numbers from 0 in it.
+/// The parts one after the other, each so many times, with the numbers from 0 in it.
 fn written(alloc: Global, parts: &[(usize, &str)]) -> Result<String, AllocError> {
     let mut text = String::new(alloc);
     for (times, part) in parts {
@@ -150,7 +150,7 @@ static BEYOND: [Row; 13] = [
         ],
         "TooMany at 940",
     ),
-    // the second of the two names stands behind the item's first token
+    // the second of the two names stands after the item's first token
     (
         &[
             (1, "CREATE STREAM s (v BIGINT) FROM 's'; SELECT "),

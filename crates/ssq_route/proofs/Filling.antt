@@ -53,7 +53,7 @@ same_test a = grind (arith, nat_tests)
 other_test : (a b : ℕ) → (b ≡ a → ⊥) → eqb a b ≡ false
 other_test a b apart = grind (arith, nat_tests)
 
--- the item stands behind the others of its place
+-- the item stands after the others of its place
 own_bucket : {T : Type 0} (partitions : ℕ) (added : List (List ℕ × T)) (key : List ℕ) (item : T) → items_at partitions added (place_of key partitions) ++ item ∷ [] ≡ items_at partitions (added ++ (key, item) ∷ []) (place_of key partitions)
 own_bucket {T} partitions added key item =
     let at = place_of key partitions in

@@ -53,7 +53,7 @@ impl<T: Drop> Buckets<T> {
         self.partitions
     }
 
-    /// Puts the item into the bucket of its key, behind those that are there. After an `Err` the item is gone and
+    /// Puts the item into the bucket of its key, after those that are there. After an `Err` the item is gone and
     /// the buckets are as they were.
     pub fn add(&mut self, key: &[u8], item: T) -> Result<(), AllocError>
         ensures added { OnOk result (

@@ -1,4 +1,4 @@
-//! Runs of which one call fails, each in turn, with a crash behind it.
+//! Runs of which one call fails, each in turn, with a crash after it.
 
 use crate::grouped::CLOSED;
 use crate::rows::{Row, WORKED};

@@ -40,7 +40,7 @@ const BY_THREE: &[&str] = &["ssq", "run", "q.sql", "--max-lines", "3"];
 
 const TWICE_BY_ONE: &[&str] = &["ssq", "run", "q.sql", "--max-lines", "1", "--rounds", "2"];
 
-/// Two parts, and a row that comes behind a later one of its part and is late.
+/// Two parts, and a row that comes after a later one of its part and is late.
 const LATE: &[&[u8]] = &[
     b"{\"ts\":\"2024-01-01T12:03:00Z\"}\n{\"ts\":\"2024-01-01T12:16:00Z\"}\n{\"ts\":\"2024-01-01T12:02:00Z\"}\n",
     b"{\"ts\":\"2024-01-01T12:04:00Z\"}\n",

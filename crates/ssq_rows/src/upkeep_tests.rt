@@ -17,10 +17,10 @@ const SHOW: &[&str] = &["ssq", "show", "q.sql"];
 /// A run over so many lines, one an epoch, which of the state's files it leaves, and its table.
 struct Long {
     lines: u64,
-    /// The first version whose delta is left, and the one behind the last.
+    /// The first version whose delta is left, and the one after the last.
     deltas: (u32, u32),
     snapshots: &'static [u32],
-    /// The newest of them. Behind its mark it has the partition, the version, the number of entries, and of the one entry the length of the key,
+    /// The newest of them. After its mark it has the partition, the version, the number of entries, and of the one entry the length of the key,
     /// the key, the length of the value and the value: how many numbers there are, and their sum.
     newest: (Name, &'static [u8]),
     table: &'static [u8],

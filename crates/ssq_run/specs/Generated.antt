@@ -41,7 +41,7 @@ made_setting bound number n = setting_over (made_held number n) bound
 abbrev pub lengths : Setting → List ℕ
 lengths s = map length s.lines
 
--- The epochs of one round that finds all lines: each end is the next one by the cap, as long as lines are not covered, and behind them one without
+-- The epochs of one round that finds all lines: each end is the next one by the cap, as long as lines are not covered, and after them one without
 -- lines comes where it is due. So there is one list of their cuts.
 pub record AreEpochs (s : Setting) (cuts : Cuts) (n : ℕ) : Type 0 where
   pub starts : cuts 0 ≡ begins s.job.parts

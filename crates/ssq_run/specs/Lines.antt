@@ -48,7 +48,7 @@ stop_text FullEpochs = codes "stopped 11 Full epochs"
 abbrev pub stop_line : Stop → List ℕ
 stop_line stop = stop_text stop ++ codes "\n"
 
--- a number behind what it is
+-- a number after what it is
 abbrev pub number_line : List ℕ → ℕ → List ℕ
 number_line front number = front ++ decimal number ++ codes "\n"
 

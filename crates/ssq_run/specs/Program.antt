@@ -99,13 +99,13 @@ went_of start now disk_faults disk_faults_now returned returned_now old written 
   text = text;
 }
 
--- what stands behind what was told
+-- what stands after what was told
 abbrev pub line_in : Option Stop → List ℕ
 line_in None = []
 line_in (Some stop) = stop_line stop
 
 -- The status, and what was written at the end. Whole: what was left to tell and the stop's line. The output failed: a front of that;
--- where the job was done this is status 8, and a front of that status's line stands behind it. Memory ran out, status 10: for the stop's line,
+-- where the job was done this is status 8, and a front of that status's line stands after it. Memory ran out, status 10: for the stop's line,
 -- and a front of what was left to tell was written; or for what was to be written, and a front of the line of that status was.
 pub data Wrote (stop : Option Stop) (told old new : List ℕ) (before now status : ℕ) : Type 0 where
   whole : status ≡ status_in stop → new ≡ old ++ (told ++ line_in stop) → Wrote stop told old new before now status

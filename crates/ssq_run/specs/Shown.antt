@@ -47,7 +47,7 @@ pub data ShowEnd (bound : Bound) (files : Files) (told : List ℕ) (stop : Optio
   written : HasRecordOf (query_of bound) files → IsTable bound files told → stop ≡ None → ShowEnd bound files told stop
   broke_off : HasRecordOf (query_of bound) files → (text : List ℕ) → IsTable bound files text → IsFront told text → stop ≡ Some OutFault → ShowEnd bound files told stop
 
--- What was written behind what stood there before is the table of the query's meaning, for these cuts: the canonical text of rows, and of no others, that are
+-- What was written after what stood there before is the table of the query's meaning, for these cuts: the canonical text of rows, and of no others, that are
 -- the table after as many epochs as have a sink file, each as often, and come in the order in which sink files have them and are read. These epochs are the
 -- committed ones, and may have the planned one with them.
 pub record HasWrittenTable (s : Setting) (cuts : Cuts) (planned committed : ℕ) (files : Files) (before after : List ℕ) : Type 0 where

@@ -68,7 +68,7 @@ struct StreamPart {
     part: usize,
 }
 
-/// Which part of which stream the part at this place among all parts is, where the streams have so many parts each. Behind the last of
+/// Which part of which stream the part at this place among all parts is, where the streams have so many parts each. After the last of
 /// them it is a part of a stream that is not there.
 fn part_at(counts: &[u32], at: usize) -> StreamPart
     ensures stream { result.stream ≡ (part_at counts.now at).stream }

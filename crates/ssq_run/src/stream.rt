@@ -89,7 +89,7 @@ pub fn stream_main<R: Threads + Wait + Sync, D: Disk, I: Inputs, O: Output, G: G
     ensures stay { D.tells → I.tells → (s : SettingOf) → IsAskedFor (record { words = map string_bytes words.now; held = I.held inputs; known = I.available inputs }) (D.history disk) s →
         LeavesNow (D.history disk) (Stands (job_of s)) → LeavesOnly (D.history disk) (D.history result.disk) (Stands (job_of s)) }
     // Logs may grow between two runs. Where files stand for a query over its logs, or there are none, so it is for that query over the same logs with
-    // more lines behind: what one run left stands for the next, whatever line the one took for a log's last.
+    // more lines after: what one run left stands for the next, whatever line the one took for a log's last.
     ensures stands_as_logs_grow { (s longer : SettingOf) (files : FilesOf) → HasGrown s longer → StandsOrEmpty (job_of s) files → StandsOrEmpty (job_of longer) files }
     // And where they stand for the one, so they do for the other: there are some.
     ensures stays_as_logs_grow { (s longer : SettingOf) (files : FilesOf) → HasGrown s longer → Stands (job_of s) files → Stands (job_of longer) files }

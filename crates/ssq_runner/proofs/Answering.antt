@@ -15,7 +15,7 @@ unfolding answers_of
 answers_count i [] = refl
 answers_count i (round ∷ earlier) = rw (length-append, answers_count i earlier) (omega arith)
 
--- what stands behind so many
+-- what stands after so many
 seam_at : (i : ℕ) (skipped : List ℕ) (n : ℕ) (found : List ℕ) → length skipped ≡ i → get_or (skipped ++ n ∷ found) i 0 ≡ n
 seam_at i skipped n found at = ap (λ (k : ℕ). get_or (skipped ++ n ∷ found) k 0) (sym at) ∙ get_or-append_seam skipped n found 0
 

@@ -272,7 +272,7 @@ module _ {L : Type 0} (told tells : Type 0) (lines : L → List Line) (available
       rounds_step (Owned tells lines available answers faults b) (t, owned.1) (setting_in tells lines available answers faults b) b.cap (cuts_in b ends.plans) (length (cuts_in b ends.plans (length b.found.plans))) most seen (length b.found.plans) (length ends.plans) (length ends.plans)
       ends.done few_rounds ends.has.are next
 
-  -- behind one without lines none is due
+  -- after one without lines none is due
   quiet : (e : ℕ) → cuts_in b ends.plans (e + 1) ≡ cuts_in b ends.plans e → dues (e + 1) ≡ false
   quiet e same =
       let x = setting_in tells lines available answers faults b in
@@ -342,7 +342,7 @@ module _ {L : Type 0} (told tells : Type 0) (lines : L → List Line) (available
       (λ cuts. keys (offsets (cuts_in b ends.plans)) (length ends.plans) (b.found.committed + n) cuts on_from (let c = facts.commits_are in omega (arith, c)) less) are_cuts in
       keyless x.job.bound (parts_in x) (offsets (cuts_in b ends.plans)) (b.found.committed + n) key none is
 
-  -- an epoch behind the committed ones begins behind them
+  -- an epoch after the committed ones begins after them
   pub behind : (n : ℕ) → b.found.committed + n ≤ length ends.plans → (i : ℕ) → get_or (committed_in can.resumed) i 0 ≤ get_or (offsets_of (cuts_in b ends.plans (b.found.committed + n))) i 0
   behind n le i = elim (cases_lt (b.found.committed + n) (length b.found.plans)) [
     | inl early ↦
@@ -361,7 +361,7 @@ module _ {L : Type 0} (told tells : Type 0) (lines : L → List Line) (available
         omega (arith, c, f, o, m, a)
   ]
 
-  -- no line behind them is the fault of an epoch
+  -- no line after them is the fault of an epoch
   no_fault_at : (n : ℕ) → b.found.committed + n < length ends.plans → ((i : ℕ) (part : Part) → slice_get (parts_in s) i ≡ Some part → IsFine s.job.bound part (get_or (committed_in can.resumed) i 0))
       → (at : LineAt) → IsFaultAt (setting_in tells lines available answers faults b) (cuts_in b ends.plans) (b.found.committed + n) (Some at) → ⊥
   no_fault_at n less good at is =

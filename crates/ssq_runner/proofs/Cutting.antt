@@ -85,12 +85,12 @@ told_more first plans more e (t ∷ rest) le are =
       told_more first plans more (e + 1) rest (omega (arith, le)) are.1,
     )
 
--- epochs that are told behind others
+-- epochs that are told after others
 pub told_then : (first : EndsOf) (plans : List Plan) (e : ℕ) (told more : List Told) → AreTold first plans e told → AreTold first plans (e + length told) more → AreTold first plans e (told ++ more)
 told_then first plans e [] more are after = subst (λ (n : ℕ). AreTold first plans n more) (omega arith) after
 told_then first plans e (t ∷ rest) more are after = (are.0, told_then first plans (e + 1) rest more are.1 (subst (λ (n : ℕ). AreTold first plans n more) (omega arith) after))
 
--- their lines stand behind those of the others
+-- their lines stand after those of the others
 pub text_then : (told more : List Told) → told_text (told ++ more) ≡ told_text told ++ told_text more
 unfolding told_text
 text_then [] more = refl

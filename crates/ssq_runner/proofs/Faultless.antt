@@ -17,7 +17,7 @@ take_at (suc n) [] j x is = absurd (none-some x is)
 take_at (suc n) (y ∷ ys) zero x is = is
 take_at (suc n) (y ∷ ys) (suc j) x is = take_at n ys j x is
 
--- and a line of the rest behind what was left out
+-- and a line of the rest after what was left out
 drop_at : {X : Type 0} (n : ℕ) (xs : List X) (j : ℕ) (x : X) (k : ℕ) → k ≡ n + j → slice_get (drop n xs) j ≡ Some x → slice_get xs k ≡ Some x
 drop_at zero xs j x k same is = subst (λ (m : ℕ). slice_get xs m ≡ Some x) (let e : j ≡ k = omega (arith, same) in e) is
 drop_at (suc n) [] j x k same is = absurd (none-some x is)

@@ -219,7 +219,7 @@ pub record HasGrown (cuts : Cuts) (due : ℕ → Bool) (most : List ℕ) (from e
 
 module _ (cap : Option ℕ) (has : HasCap cap) (cuts : Cuts) (due : ℕ → Bool) (quiet : (e : ℕ) → cuts (e + 1) ≡ cuts e → due (e + 1) ≡ false) (most : List ℕ) (from to : ℕ)
     (first : (i : ℕ) → get_or (offsets_of (cuts from)) i 0 ≤ get_or most i 0) (steps : (e : ℕ) → from ≤ e → e < to → IsStep cap cuts due (length (cuts from)) most e) where
-  -- an epoch covers a line more; or it has none, was due, and behind it none is
+  -- an epoch covers a line more; or it has none, was due, and after it none is
   covers : (e : ℕ) → IsStep cap cuts due (length (cuts from)) most e
       → (sum (offsets_of (cuts e)) + 1 ≤ sum (offsets_of (cuts (e + 1)))) ⊎ ((sum (offsets_of (cuts (e + 1))) ≡ sum (offsets_of (cuts e))) × (due e ≡ true) × (due (e + 1) ≡ false))
   covers e step = by (is_behind (cuts e) step.found) refl

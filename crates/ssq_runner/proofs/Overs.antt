@@ -1,4 +1,4 @@
--- A round that has gone: rounds go on behind it, or the run is over.
+-- A round that has gone: rounds go on after it, or the run is over.
 use Rattle.std.proofs.Common.{◌≡◌, ◌<◌, ◌+◌, ◌++◌, ℕ, List, Result, Ok, Err, IfOk, IfErr, OnOk, inr, sym, subst, arith, add-one}
 use Rattle.ssq_outside.specs.History.{History, files_now}
 use Rattle.ssq_outside.specs.Logs.{Line}

@@ -137,7 +137,7 @@ module _ {L : Type 0} (tells : Type 0) (lines : L → List Line) (available : L 
 pub follows_count : (before ends : List PartEnd) → IsTrue (follows before ends) → length before ≡ length ends
 follows_count before ends is = eqb-true (length before) (length ends) (and_parts (length before == length ends) (list_all keeps_up (zip before ends)) is).0
 
--- where none is planned, and behind each plan, there is an end for each part
+-- where none is planned, and after each plan, there is an end for each part
 pub ends_each : (streams : List Watermarked) (opened : Opened) → HasNumbers streams (first_of opened) opened → (n : ℕ) → n ≤ length opened.plans → length (cut_of (first_of opened) opened.plans n) ≡ length (first_of opened)
 ends_each streams opened numbers zero le = refl
 ends_each streams opened numbers (suc n) le =

@@ -61,7 +61,7 @@ module _ {L : Type 0} (tells : Type 0) (lines : L → List Line) (available : L 
     pub ready : IsReady tells lines available answers faults b n now disk_faults logs OutTells written opened found
     pub indexes : HaveIndexes g.bound opened.stores closings
 
-  -- The next round has gone, behind so many: it began on what was ready, and left this, of which nothing is written yet.
+  -- The next round has gone, after so many: it began on what was ready, and left this, of which nothing is written yet.
   pub record HasGone (g : Given L) (n : ℕ) (now : History) (disk_faults : ℕ) (logs : List L) (OutTells : Type 0) (written : List ℕ) (told : List Told) (end : Ended) : Type 0 where
     pub b : Begun L
     pub begun : HaveBegun g b

@@ -78,7 +78,7 @@ pub record CanGoOn (held : Held) (known : List ℕ → ℕ → ℕ) (bound : Bou
   pub resumed : CanBeResumed (job_of s) (known_in held known bound.streams) (files_now start)
 
 -- How many epochs so many lines come to, at most. Each has a line of its own; but where the query closes, one without lines may come first, and one
--- behind each that has lines.
+-- after each that has lines.
 abbrev pub epochs_for : Bound → ℕ → ℕ
 epochs_for bound lines = if closes bound then lines + lines + 1 else lines
 

@@ -74,7 +74,7 @@ pub record Begun (L : Type 0) : Type 0 where
   pub written : List ℕ
 
 module _ {L : Type 0} where
-  -- the cuts of these plans, behind those where the parts begin
+  -- the cuts of these plans, after those where the parts begin
   abbrev pub cuts_in : Begun L → List Plan → Cuts
   cuts_in b plans = cut_of (first_of b.found) plans
 
@@ -135,7 +135,7 @@ module _ {L : Type 0} (tells : Type 0) (lines : L → List Line) (available : L 
     pub answered : HaveAnswered tells lines available answers faults 0 rounds b.logs logs
     pub first : BeginWith b.seen rounds
 
-  -- One plan more was tried: by the lines that the last round found, for which the logs were asked behind those that are over, and in which a call of
+  -- One plan more was tried: by the lines that the last round found, for which the logs were asked after those that are over, and in which a call of
   -- the disk failed, or memory ran out.
   pub record WasTried (b : Begun L) (logs : List L) (plans : List Plan) (done : List Round) (end : Result (Unit {0}) RunFault) (found : List ℕ) : Type 0 where
     pub asked : WereAsked b (record { found = found; epochs = length plans } ∷ done) logs
@@ -165,7 +165,7 @@ module _ {L : Type 0} (tells : Type 0) (lines : L → List Line) (available : L 
 
   -- How rounds end: what they leave on the disk and of the logs, what is written and what is left to be written, and why.
   --  All rounds that were asked for are over and told, each log was asked once for each, and it is left to say how many epochs there are. Or
-  --  one stopped, for which they were asked, too, at an epoch behind those that were told, of which those of the rounds before are written. Or all are
+  --  one stopped, for which they were asked, too, at an epoch after those that were told, of which those of the rounds before are written. Or all are
   --  told, and the lines were not counted for one more, for which some logs were asked. Or the output failed, and a front of the lines of the last round was written,
   --  for which they were asked, too, and which has come to its end: all that it found is covered, and all are told. Or memory ran out, and lines of the last round are left.
   pub data IsEnd (b : Begun L) (now : History) (disk_faults : ℕ) (logs : List L) (OutTells : Type 0) (written : List ℕ) (plans : List Plan) (done : List Round) (told : List Told) (text : List ℕ) (end : Result (Unit {0}) RunFault) : Type 0 where

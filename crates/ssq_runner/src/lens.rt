@@ -7,7 +7,7 @@ use ssq_open::Lens;
 use ssq_value::Sequence;
 use std::alloc::{AllocError, Global};
 
-/// Adds the lines of each stream behind those that are there.
+/// Adds the lines of each stream after those that are there.
 fn put_streams(
     alloc: Global,
     counts: &[u32],

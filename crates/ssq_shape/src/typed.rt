@@ -44,7 +44,7 @@ pub enum Typed {
     Arithmetic(Arithmetic, Boxed<Typed>, Boxed<Typed>),
     /// A time plus a span in microseconds, which is negative where the span is taken from the time.
     Shifted(Boxed<Typed>, i64),
-    /// `||`: the two texts, one behind the other.
+    /// `||`: the two texts, one after the other.
     Joined(Boxed<Typed>, Boxed<Typed>),
     Compared(Comparison, Boxed<Typed>, Boxed<Typed>),
     /// `a BETWEEN b AND c`.

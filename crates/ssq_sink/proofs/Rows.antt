@@ -55,7 +55,7 @@ unfolding row_cmp
 row_cmp_exact [] left right tie = values_cmp_exact left right tie
 row_cmp_exact (key ∷ order) left right tie = row_cmp_exact order left right (ties_last (key_cmp key left right) (row_cmp order left right) tie)
 
--- rows stand as the next key tells, and where it tells nothing, as those behind it do
+-- rows stand as the next key tells, and where it tells nothing, as those after it do
 by_next : (order : List SortKey) (at : ℕ) (other : SortKey) (left right : List Value) (r : Ordering) → at < length order → r ≡ key_cmp (get_or order at other) left right → row_cmp (drop at order) left right ≡ ordering_then r (row_cmp (drop (at + 1) order) left right)
 unfolding row_cmp
 by_next order at other left right r low is =

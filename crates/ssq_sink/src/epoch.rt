@@ -19,7 +19,7 @@ use ssq_value::{Row, Text};
 use std::alloc::{AllocError, Global};
 
 /// The text of an epoch's sink file: the rows sorted by the keys of ORDER BY, and where they tie on these value by value from the left,
-/// one JSON line each, with a line feed behind each. NULL sorts first, and under DESC last. Of no rows the text is empty. The rows have the
+/// one JSON line each, with a line feed after each. NULL sorts first, and under DESC last. Of no rows the text is empty. The rows have the
 /// columns of SELECT, and times of the years 0001 to 9999.
 pub fn epoch_text(alloc: Global, bound: &Bound, rows: Vec<Row>) -> Result<Text, AllocError>
     requires { All (All (IfTime IsStampTime)) rows.items }
@@ -45,7 +45,7 @@ pub(crate) fn rows_text(
     Ok(utf8_text(text))
 }
 
-/// Adds a row to a text, with a line feed behind it.
+/// Adds a row to a text, with a line feed after it.
 pub(crate) fn put_line(text: &mut Vec<u8>, heads: &Heads, row: &Row) -> Result<(), AllocError>
     requires { All (IfTime IsStampTime) row.now }
     ensures text { OnOk result (text.new.items ≡ text.old.items ++ line_with heads.now row.now) }

@@ -10,7 +10,7 @@ use Rattle.ssq_shape.specs.Evaluation.{cell_at}
 pub one_more : {A : Type 0} (xs : List A) (at : ℕ) (x : A) → at < length xs → x ≡ get_or xs at x → take (at + 1) xs ≡ take at xs ++ x ∷ []
 one_more xs at x inside is = take_more xs at x inside ∙ ap (λ y. take at xs ++ y ∷ []) (sym is)
 
--- of two lists one behind the other
+-- of two lists one after the other
 pub front_all : {A : Type 0} (P : A → Type 0) (xs ys : List A) → AllByRecursion P (xs ++ ys) → AllByRecursion P xs
 front_all P [] ys all = tt
 front_all P (x ∷ xs) ys all = (all.0, front_all P xs ys all.1)

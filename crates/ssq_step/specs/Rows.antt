@@ -25,7 +25,7 @@ pub record HasParts (key value : List ℕ) (left : Bool) (values : List ℕ) (me
   pub side : key ≡ side_byte left ∷ rest
   pub spelled : value ≡ values ++ met_byte met ∷ []
 
--- A row of a side is kept under these bytes, with these behind them: its values, and whether it met a partner.
+-- A row of a side is kept under these bytes, with these after them: its values, and whether it met a partner.
 pub record IsKeptRow (query : Bound) (left : Bool) (values : Values) (met : Bool) (key value : List ℕ) : Type 0 where
   pub bytes : HasParts key value left (keys_of values) met
   pub fit : All IsFit values

@@ -83,7 +83,7 @@ fn parts_of<'a>(key: &[u8], value: &'a [u8]) -> Option<RowBytes<'a>>
     Some(RowBytes { left, values, met })
 }
 
-/// The row that is kept under these bytes, with these behind them. None where it is none that can be kept.
+/// The row that is kept under these bytes, with these after them. None where it is none that can be kept.
 pub fn read_row(
     alloc: Global,
     bound: &Bound,

@@ -111,7 +111,7 @@ SnapshotFails files partition count snapshot_fault.DiskFault = ⊤
 SnapshotFails files partition count snapshot_fault.NoMemory = ⊤
 
 -- The files of a partition are true to these states, its state after each number of versions: each snapshot is that of its version, and
--- each delta from a floor on is there and that of its version. The floor is the first version, or behind a snapshot.
+-- each delta from a floor on is there and that of its version. The floor is the first version, or after a snapshot.
 pub record AreTrue (files : Files) (partition count floor : ℕ) (states : ℕ → State) : Type 0 where
   pub first : states 0 ≡ []
   pub snapshots : (version : ℕ) → version < count → IsSome (files (name.Snapshot partition version)) → IsSnapshot (files (name.Snapshot partition version)) partition version (states (suc version))

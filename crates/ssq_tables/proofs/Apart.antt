@@ -124,7 +124,7 @@ names_in outputs = map (λ output. output.name) outputs
 regroup : (a b c d : List ℕ) → (a ++ (b ++ c)) ++ d ≡ a ++ (b ++ (c ++ d))
 regroup a b c d = append_assoc a (b ++ c) d ∙ ap (λ l. a ++ l) (append_assoc b c d)
 
--- behind a value stands a comma or a brace
+-- after a value stands a comma or a brace
 no_digit : (outputs : List Output) (row : Values) (rest : List ℕ) → NoDigit (members_text (heads_from true (names_in outputs)) row ++ 125 ∷ rest)
 unfolding heads_from members_text
 no_digit [] row rest = refl

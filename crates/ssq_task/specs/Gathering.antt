@@ -23,7 +23,7 @@ fault_of_stage error.Fault = fault.DiskFault
 fault_of_stage error.NoMemory = fault.NoMemory
 
 module _ {S : Type 0} (written : S → List ℕ) where
-  -- each file has its text behind what it had
+  -- each file has its text after what it had
   pub record HasWritten (rows commit : List ℕ) (before now : Stages S) : Type 0 where
     pub rows_is : written now.rows ≡ written before.rows ++ rows
     pub commit_is : written now.commit ≡ written before.commit ++ commit
@@ -54,7 +54,7 @@ module _ {S F : Type 0} (written : S → List ℕ) (sealed : F → List ℕ) whe
     pub commit : sealed files.commit ≡ written before.commit
 
 module _ {S F : Type 0} (tells : Type 0) (written : S → List ℕ) (sealed : F → List ℕ) (faults : S → ℕ) where
-  -- the sealed files: the text of the rows, and that of the commit, behind what the files had
+  -- the sealed files: the text of the rows, and that of the commit, after what the files had
   pub record HasEpoch (task : OutTask S F) (files : SealedEpoch F) : Type 0 where
     pub rows : sealed files.rows ≡ written task.stages.rows ++ sink_text task.view.bound.now (joined_vecs task.rows.items)
     pub commit : sealed files.commit ≡ written task.stages.commit ++ commit_text (commit_at task.view.bound.now task.epoch task.seen)

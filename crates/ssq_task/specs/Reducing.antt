@@ -108,7 +108,7 @@ IsGiven query partition old new before now state = IsGivenBy query.shape query p
 module _ {S F : Type 0} (tells : Type 0) (written : S → List ℕ) (sealed : F → List ℕ) (query : Bound) (epoch partition : ℕ) (now : Option ℤ) (new : List FedRow) where
   -- It is the epoch's, by the rows that the partition accepted before (old) and the watermark before: the rows are those that the operator
   -- shows, as a bag, and no key overflows; the store holds what all accepted rows leave; and the delta has the bytes of the change from what
-  -- the rows before left to that, behind what the file aside had.
+  -- the rows before left to that, after what the file aside had.
   pub record IsEpoch (old : List FedRow) (before : Option ℤ) (state : Option (State S)) (held : Option Held) (brought : ReducedRows F) : Type 0 where
     pub shown : IsPermutation brought.rows.items ((operator_of query).added old new before now)
     pub faultless : (operator_of query).fault old new before now ≡ None

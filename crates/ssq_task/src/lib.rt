@@ -1,4 +1,4 @@
-//! The tasks of an epoch behind its map tasks, as owned values: the reduce task takes the rows of a partition to those that the epoch
+//! The tasks of an epoch after its map tasks, as owned values: the reduce task takes the rows of a partition to those that the epoch
 //! shows, and what the partition keeps to the epoch's version, whose delta it writes aside and seals; the out task writes the rows and the
 //! epoch's commit aside and seals both.
 //!

@@ -125,7 +125,7 @@ pub struct Reduced<'a, S: Stage> {
     pub outcome: Result<ReducedRows<S::Sealed>, (ReduceFault, Option<S>)>,
 }
 
-/// Puts the values of each row of a part behind those that are there.
+/// Puts the values of each row of a part after those that are there.
 fn push_values(values: &mut Vec<Row>, rows: Vec<FedRow>) -> Result<(), AllocError>
     ensures { OnOk result (values.new.items ≡ values.old.items ++ values_of rows.items) }
 {

@@ -1,4 +1,4 @@
--- The rows of a join are kept apart, whatever lines come behind those that its cuts cover.
+-- The rows of a join are kept apart, whatever lines come after those that its cuts cover.
 use Rattle.std.proofs.Common.{◌≡◌, ◌<◌, ◌≤◌, ◌+◌, ◌-◌, ◌^◌, ◌==◌, ◌++◌, [], ◌∷◌, ℕ, zero, suc, List, None, refl, ap, sym, ◌∙◌, subst, arith, filter, map, take, drop}
 use Rattle.std.specs.Prelude.{All, if◌then◌else◌, not, sum}
 use Rattle.std.specs.List.{AllByRecursion, enumerate_from, flat_map}

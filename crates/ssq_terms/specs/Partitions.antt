@@ -106,7 +106,7 @@ PartitionsContinue S F = (s : Setting) (bound : Bound) (partitions : Option ℕ)
 -- ---- what it brings
 
 -- What a reduce task brings is the partition's: the rows that it shows of epoch e, in any order; no key overflows; and, where the partition
--- keeps state, that state after epoch e with its index, and what the epoch changes in it, as the delta's bytes behind what the file aside had.
+-- keeps state, that state after epoch e with its index, and what the epoch changes in it, as the delta's bytes after what the file aside had.
 pub record IsVersionOf {S F : Type 0} (tells : Type 0) (written : S → List ℕ) (sealed : F → List ℕ) (s : Setting) (cuts : Cuts) (e p : ℕ) (state : Option (State S)) (held : Option Held) (brought : ReducedRows F) : Type 0 where
   pub shown : IsShownOf s cuts e p brought.rows.items
   pub faultless : partition_fault s cuts e p ≡ false

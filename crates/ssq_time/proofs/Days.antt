@@ -35,7 +35,7 @@ last_begun_is start (suc n) m day one within begun later =
       | inr (inr after) ↦ absurd (omega arith)
     ]
 
--- where the first has begun and the one behind all has not, the last that has begun is one of them
+-- where the first has begun and the one after all has not, the last that has begun is one of them
 pub record IsLastBegun (start : ℕ → ℤ) (n : ℕ) (day : ℤ) (m : ℕ) : Type 0 where
   pub first : 1 ≤ m
   pub last : m ≤ n

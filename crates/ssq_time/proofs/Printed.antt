@@ -93,7 +93,7 @@ day_at_head_is first last text day small e =
       minus_after = same_true _ _ signs.1;
     }))))
 
--- the second of the day stands behind the day
+-- the second of the day stands after the day
 pub record HasSecond (text : List ℕ) (second : ℕ) : Type 0 where
   pub small : second < 86400
   pub hour_at : HasTwo text 11 (second / 3600)
@@ -141,7 +141,7 @@ second_behind_day_is text second e =
       colon_after = same_true _ _ signs.1;
     })))
 
--- six digits and a point behind the seconds
+-- six digits and a point after the seconds
 pub record HasMicros (text : List ℕ) (micro : ℕ) : Type 0 where
   pub small : micro < 1_000_000
   pub point : slice_index text 19 ≡ 46
@@ -230,7 +230,7 @@ text_is text day second zero d s (plain size last) = (plain_is text day second d
 text_is text day second _ d s (full micro size last some m) =
     (full_is text day second micro d s m size last ∙ sym (parts_text-more d.year d.month d.date second micro some), m.small)
 
--- a day of those years lies between the first day of the first and the first day behind the last
+-- a day of those years lies between the first day of the first and the first day after the last
 day_range : (first last y m d : ℕ) (day : ℤ) → last ≤ 9999 → IsDay first last y m d day → (days_from_civil (pos first) 1 1 ≤ℤ day) × (day <ℤ days_from_civil (pos (suc last)) 1 1)
 day_range first last y m d day small h =
     let high = day_count-lt_year (pos y) m d (pos (suc last)) 1 1 h.civil (omega arith) (omega (arith, signed_arith, h.high)) in

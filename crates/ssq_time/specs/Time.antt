@@ -43,7 +43,7 @@ second_number hour minute second =
     if nat_le hour 23 && nat_le minute 59 && nat_le second 59
     then Some (3600 * hour + 60 * minute + second) else None
 
--- `THH:MM:SS` behind the day
+-- `THH:MM:SS` after the day
 unfoldable pub second_behind_day : List ℕ → Option ℕ
 second_behind_day text = do
   hour ← two_at text 11
@@ -52,12 +52,12 @@ second_behind_day text = do
   if (slice_index text 10 == 84) && (slice_index text 13 == 58) && (slice_index text 16 == 58)
       then second_number hour minute second else None
 
--- the digit that counts at that place behind the point, where `written` digits stand: those that do not stand are 0
+-- the digit that counts at that place after the point, where `written` digits stand: those that do not stand are 0
 unfoldable pub decimal_at : List ℕ → ℕ → ℕ → Option ℕ
 decimal_at text written at =
     if nat_lt at written then digit_of (slice_index text (20 + at)) else Some 0
 
--- `.` and that many digits behind the seconds: microseconds
+-- `.` and that many digits after the seconds: microseconds
 unfoldable pub micros_written : ℕ → List ℕ → Option ℕ
 micros_written written text = do
   a ← decimal_at text written 0
@@ -69,7 +69,7 @@ micros_written written text = do
   if slice_index text 19 == 46
       then Some (100000 * a + 10000 * b + 1000 * c + 100 * d + 10 * e + f) else None
 
--- nothing behind the seconds, or a point and one to six digits, and then `Z`, which ends the text
+-- nothing after the seconds, or a point and one to six digits, and then `Z`, which ends the text
 unfoldable pub micros_of : List ℕ → Option ℕ
 micros_of text =
     if slice_index text (length text - 1) == 90 then
@@ -117,7 +117,7 @@ six_micros_of text = do
   micro ← micros_written 6 text
   if micro == 0 then None else Some micro
 
--- nothing behind the seconds, or six such digits, and then `Z`, which ends the text
+-- nothing after the seconds, or six such digits, and then `Z`, which ends the text
 unfoldable pub stamp_micros_of : List ℕ → Option ℕ
 stamp_micros_of text =
     if slice_index text (length text - 1) == 90 then

@@ -28,7 +28,7 @@ pub(crate) fn two(text: &[u8], at: usize) -> Option<u8>
     Some(10 * tens + units)
 }
 
-/// The digit at that place behind the point, where `written` digits stand: the others are 0.
+/// The digit at that place after the point, where `written` digits stand: the others are 0.
 #[tactic(auto, unfolding(crate::specs::Time::decimal_at))]
 #[inline(always)]
 pub(crate) fn decimal(text: &[u8], written: usize, at: usize) -> Option<u8>

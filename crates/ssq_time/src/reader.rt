@@ -77,7 +77,7 @@ fn second_from(hour: u8, minute: u8, second: u8) -> Option<u32>
     }
 }
 
-/// `THH:MM:SS` behind the day.
+/// `THH:MM:SS` after the day.
 #[tactic(auto, unfolding(crate::specs::Time::second_behind_day))]
 #[inline(always)]
 fn second_at(text: &[u8]) -> Option<u32>
@@ -95,7 +95,7 @@ fn second_at(text: &[u8]) -> Option<u32>
     }
 }
 
-/// A point and `written` digits behind the seconds: microseconds.
+/// A point and `written` digits after the seconds: microseconds.
 #[tactic(auto, unfolding(crate::specs::Time::micros_written))]
 #[inline(always)]
 fn micros_from(written: usize, text: &[u8]) -> Option<u32>
@@ -118,7 +118,7 @@ fn micros_from(written: usize, text: &[u8]) -> Option<u32>
     }
 }
 
-/// What stands behind the seconds, up to the `Z` that ends the text.
+/// What stands after the seconds, up to the `Z` that ends the text.
 #[tactic(auto, unfolding(crate::specs::Time::micros_of))]
 fn micros_at(text: &[u8]) -> Option<u32>
     requires { 20 ≤ length text.now }
@@ -161,7 +161,7 @@ fn six_micros_at(text: &[u8]) -> Option<u32>
     if micro == 0 { None } else { Some(micro) }
 }
 
-/// What stands behind the seconds of a printed text, up to the `Z` that ends it.
+/// What stands after the seconds of a printed text, up to the `Z` that ends it.
 #[tactic(auto, unfolding(crate::specs::Time::stamp_micros_of))]
 fn stamp_micros_at(text: &[u8]) -> Option<u32>
     requires { 20 ≤ length text.now }

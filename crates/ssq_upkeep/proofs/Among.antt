@@ -18,7 +18,7 @@ or_false : (a b : Bool) → b ≡ false → (a || b) ≡ a
 or_false true b none = refl
 or_false false b none = none
 
--- a name is in two lists, one behind the other, where it is in one of them
+-- a name is in two lists, one after the other, where it is in one of them
 pub among_both : (a b : List Name) (q : Name) → is_among (a ++ b) q ≡ (is_among a q || is_among b q)
 among_both a b q = list_any-append (λ n. same_name n q) a b
 

@@ -74,7 +74,7 @@ module _ (old new settled : List Name) (partitions last : ℕ) (n : Name) (more 
     ];
   }
 
--- ---- of two lists, one behind the other
+-- ---- of two lists, one after the other
 
 module _ (one other settled : List Name) (partitions last : ℕ) where
   in_either : (q : Name) → Goes (one ++ other) settled partitions (Some last) q → Goes one settled partitions (Some last) q ⊎ Goes other settled partitions (Some last) q

@@ -39,7 +39,7 @@ listed_all made all it none is = sym (append-nil (shown made)) ∙ ap (λ (es : 
 
 -- ---- newer entries among older ones
 
--- an entry goes behind what comes before its key
+-- an entry goes after what comes before its key
 put_behind : {X : Type 0} (first : List ℕ × X) (es : List (List ℕ × X)) (k : List ℕ) (x : X) → by_bytes first.0 k ≡ Less → insert_entry by_bytes (first ∷ es) k x ≡ first ∷ insert_entry by_bytes es k x
 put_behind {X} first es k x less =
     ap (λ (o : Ordering). match_ordering o ((k, x) ∷ first ∷ es) ((first.0, x) ∷ es) (first ∷ insert_entry by_bytes es k x)) (nat_list_cmp_total.antisymm k first.0 ∙ ap ordering_reverse less)
@@ -89,7 +89,7 @@ first newer ns n is ascend = subst (λ (es : List Entry). Ascends (shown es)) is
 pub none_of_both : (older newer : List Entry) → length older ≡ 0 → length newer ≡ 0 → laid (shown newer) (shown older) ≡ []
 none_of_both older newer none also = two newer older [] [] (no_entries newer also) (no_entries older none)
 
--- what is left behind the first of one list, of the other, or of both
+-- what is left after the first of one list, of the other, or of both
 abbrev pub left : ℕ → ℕ → List Entry → List Entry → Change
 left olds news older newer = laid (shown (drop news newer)) (shown (drop olds older))
 

@@ -156,7 +156,7 @@ said_once (e ∷ made) (f ∷ state) is =
 
 -- ---- a number in front
 
--- what stands behind so many bytes, as it is lent
+-- what stands after so many bytes, as it is lent
 lent_behind : (taken : ℕ) (text : List ℕ) → take (length text - taken) (drop taken text) ≡ drop taken text
 lent_behind taken text = take_all (length text - taken) (drop taken text) (omega (arith, length-drop taken text))
 
@@ -175,7 +175,7 @@ number_each spelled text rest found taken number same is =
 
 -- ---- a file
 
--- behind the same bytes in front stands the same
+-- after the same bytes in front stands the same
 pub same_behind : (xs ys zs : List ℕ) → xs ++ ys ≡ xs ++ zs → ys ≡ zs
 same_behind [] ys zs e = e
 same_behind (x ∷ xs) ys zs e = let same : xs ++ ys ≡ xs ++ zs = cc in same_behind xs ys zs same

@@ -17,7 +17,7 @@ Apart32 = AreApart (to_be_bytes w32) Fits32 Anything
 abbrev Apart64 : Type 0
 Apart64 = AreApart (to_be_bytes w64) Fits64 Anything
 
--- of lists of one length the same stands behind them
+-- of lists of one length the same stands after them
 same_parts : (one other x y : List ℕ) → length one ≡ length other → one ++ x ≡ other ++ y → (one ≡ other) × (x ≡ y)
 same_parts [] [] x y len is = (refl, is)
 same_parts [] (b ∷ other) x y len is = absurd (omega (arith, len))

@@ -33,7 +33,7 @@ begins_from (x ∷ prefix) (y ∷ key) begins = go (nat_cmp x y) (ranked x y (na
     go Greater how is true same begins behind = absurd (let e = equal_is x y same in omega (arith, e, how))
     go Greater how is false same begins behind = absurd (true≢false (sym begins))
 
--- behind a key that is not below these bytes and does not begin with them none does
+-- after a key that is not below these bytes and does not begin with them none does
 ends_behind : (prefix key other : List ℕ) → is_le (by_bytes prefix key) ≡ true → begins_with prefix key ≡ false → by_bytes key other ≡ Less → begins_with prefix other ≡ false
 ends_behind [] key other from not_so below = absurd (true≢false not_so)
 ends_behind (x ∷ prefix) [] other from not_so below = absurd (true≢false (sym from))

@@ -56,7 +56,7 @@ pub record IsBetween (old new : State) (change : Change) : Type 0 where
   pub told : (key : List ℕ) (value : Option (List ℕ)) → value_at change key ≡ Some value → (value_at new key ≡ value) × (value_at old key ≢ value)
   pub untold : (key : List ℕ) → value_at change key ≡ None → value_at new key ≡ value_at old key
 
--- What a state or a change holds: the keys ascend, and each key and what it has are spelled behind a length in four bytes.
+-- What a state or a change holds: the keys ascend, and each key and what it has are spelled after a length in four bytes.
 pub record IsKept {X : Type 0} (IsValue : X → Type 0) (entries : List (List ℕ × X)) : Type 0 where
   pub ascend : Ascends entries
   pub keys : All IsShort (keys_of entries)

@@ -9,7 +9,7 @@ use Rattle.std.specs.declared.cmp.Ordering.TheVariants.{Less}
 pub use Rattle.ssq_version.specs.State.{said_of}
 use Rattle.ssq_version.specs.State.{State, Change, Ascends, IsShort, IsState, IsChange, by_bytes}
 
--- the bytes behind their length in four bytes
+-- the bytes after their length in four bytes
 abbrev pub field : List ℕ → List ℕ
 field bytes = to_be_bytes w32 (length bytes) ++ bytes
 

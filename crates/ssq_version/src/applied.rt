@@ -124,7 +124,7 @@ fn make_room(alloc: Global, state: &mut StateMap, change: &Change) -> Result<(),
     }
 }
 
-/// Puts an entry behind those that are there, where it gives a value.
+/// Puts an entry after those that are there, where it gives a value.
 fn push_given(
     given: &mut Vec<(Bytes, Bytes)>,
     key: Bytes,

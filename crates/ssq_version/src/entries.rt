@@ -111,7 +111,7 @@ fn changed_copies(
     Ok(made)
 }
 
-/// Puts a copy of an entry behind those that are there, where it gives a value.
+/// Puts a copy of an entry after those that are there, where it gives a value.
 fn push_given(
     alloc: Global,
     given: &mut Vec<(Bytes, Bytes)>,

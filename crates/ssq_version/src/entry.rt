@@ -23,7 +23,7 @@ pub struct Entry<'a> {
     pub value: Option<&'a [u8]>,
 }
 
-/// Appends the bytes behind their length.
+/// Appends the bytes after their length.
 pub(crate) fn put_slice(out: &mut Bytes, bytes: &[u8]) -> Result<(), AllocError>
     requires { IsShort bytes.now }
     ensures { OnOk result (out.new ≡ out.old ++ field bytes.now) }
@@ -83,7 +83,7 @@ pub(crate) fn short_and_rest(text: &[u8]) -> Option<(u32, &[u8])>
     Some((number, &text[taken..]))
 }
 
-/// The bytes behind their length in front, and what follows them.
+/// The bytes after their length in front, and what follows them.
 fn field_and_rest(text: &[u8]) -> Option<(&[u8], &[u8])>
     ensures found { IfSome result (λ parts. text.now ≡ field parts.0.now ++ parts.1.now) }
     ensures short { IfSome result (λ parts. IsShort parts.0.now) }

@@ -56,7 +56,7 @@ fn long_and_rest(text: &[u8]) -> Option<(u64, &[u8])>
     Some((number, &text[taken..]))
 }
 
-/// What stands in front of the entries, and the bytes behind it.
+/// What stands in front of the entries, and the bytes after it.
 fn head_and_rest(form: Form, text: &[u8]) -> Option<StateFile<'_>>
     ensures found { IfSome result (λ file. text.now ≡ first_word form
         ++ (to_be_bytes w32 file.partition ++ (to_be_bytes w32 file.version ++ (to_be_bytes w64 file.count ++ file.entries.now)))) }

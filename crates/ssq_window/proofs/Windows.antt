@@ -40,7 +40,7 @@ times_difference a k slide =
     let same : up (a -ℤ pos k) + down a + k ≡ up a + down (a -ℤ pos k) = omega (arith, signed_arith) in
     omega (arith, signed_arith, ap (λ n. n * slide) same)
 
--- t lies `rest` behind the multiple q of the slide, and the first window begins `before` slides before that
+-- t lies `rest` after the multiple q of the slide, and the first window begins `before` slides before that
 pub record IsFirst (t first : ℤ) (slide rest before : ℕ) (q : ℤ) : Type 0 where
   pub time : t ≡ (q *ℤ pos slide) +ℤ pos rest
   pub start : first ≡ (q *ℤ pos slide) -ℤ pos (before * slide)

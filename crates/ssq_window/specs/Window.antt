@@ -25,7 +25,7 @@ window_count t size slide = (unsigned_abs size - rest_of t slide + (unsigned_abs
 abbrev pub first_start : ℤ → ℤ → ℤ → ℤ
 first_start t size slide = t -ℤ pos (rest_of t slide + (window_count t size slide - 1) * unsigned_abs slide)
 
--- that many slides cover what is left of the size behind the time, and one slide less does not
+-- that many slides cover what is left of the size after the time, and one slide less does not
 pub record Covers (rest size slide count : ℕ) : Type 0 where
   pub some : 1 ≤ count
   pub few : size ≤ 64 * slide → count ≤ 64

@@ -7,7 +7,7 @@ use Rattle.ssq_desk.specs.declared.desk.Share.{Share}
 use Rattle.ssq_desk.specs.Contents.{key_in}
 use Rattle.ssq_desk.proofs.keys.+take_least.Goals as goal
 
--- the keys of a share and of those behind it
+-- the keys of a share and of those after it
 key_at : {S : Type 0} (share : Share S) (rest : List (Share S)) (key : Option Values) → share.key ≡ key → least_key (filter_map (λ key. key) (key ∷ map (λ share. share.key) rest)) ≡ key_in (share ∷ rest)
 key_at {S} share rest key is = ap (λ (k : Option Values). least_key (filter_map (λ key. key) (k ∷ map (λ (share : Share S). share.key) rest))) (sym is)
 

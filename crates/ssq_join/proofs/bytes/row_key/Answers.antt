@@ -7,7 +7,7 @@ use Rattle.ssq_value.specs.Key.{keys_of}
 use Rattle.ssq_meaning.specs.Join.{is_left, row_key, side_byte}
 use Rattle.ssq_join.proofs.bytes.row_key.Goals as goal
 
--- four pieces, one behind the other
+-- four pieces, one after the other
 pieces : (a b c d : List ℕ) → ((a ++ b) ++ c) ++ d ≡ a ++ (b ++ (c ++ d))
 pieces a b c d = append_assoc (a ++ b) c d ∙ append_assoc a b (c ++ d)
 

@@ -1,4 +1,4 @@
--- The pieces are put one behind the other.
+-- The pieces are put one after the other.
 use Rattle.std.proofs.Common.{◌∙◌}
 use Rattle.ssq_plans.specs.Records.{commit_text}
 use Rattle.ssq_plans.proofs.Spelled.{commit_written}

@@ -1,4 +1,4 @@
--- The number stands behind the front exactly where it stands in what follows the front.
+-- The number stands after the front exactly where it stands in what follows the front.
 use Rattle.std.proofs.Common.{◌++◌, decimal}
 use Rattle.ssq_plans.proofs.Texts.{same_rest}
 use Rattle.ssq_plans.proofs.fields.long_after.Goals as goal

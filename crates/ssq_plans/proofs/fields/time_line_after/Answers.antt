@@ -1,4 +1,4 @@
--- The time stands behind the front exactly where it stands in what follows the front.
+-- The time stands after the front exactly where it stands in what follows the front.
 use Rattle.std.proofs.Common.{◌≡◌, codes, Some, None, ◌++◌, sym, ap, subst, ◌∙◌, rules, w64, SFits}
 use Rattle.std.proofs.lemmas.Int.{to_z-of_z}
 use Rattle.std.proofs.lemmas.List.{append_cancel_left}

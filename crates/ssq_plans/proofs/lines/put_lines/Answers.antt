@@ -1,4 +1,4 @@
--- Each line is put behind those before it.
+-- Each line is put after those before it.
 use Rattle.std.proofs.Common.{arith, rules}
 use Rattle.ssq_plans.proofs.Listing.{left_first, left_next, left_none}
 use Rattle.ssq_plans.proofs.lines.put_lines.Goals as goal

@@ -1,4 +1,4 @@
--- The pieces are put one behind the other.
+-- The pieces are put one after the other.
 use Rattle.std.proofs.Common.{◌∙◌, ap}
 use Rattle.ssq_run.specs.Lines.{last_watermark, status_text}
 use Rattle.ssq_run.proofs.StatusText.{status_written}

@@ -1,4 +1,4 @@
--- The pieces are put one behind the other.
+-- The pieces are put one after the other.
 use Rattle.std.proofs.Common.{◌∙◌}
 use Rattle.ssq_runner.specs.Told.{told_line}
 use Rattle.ssq_runner.proofs.Written.{told_written}

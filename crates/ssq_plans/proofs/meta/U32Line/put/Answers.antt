@@ -1,4 +1,4 @@
--- The pieces are put one behind the other.
+-- The pieces are put one after the other.
 use Rattle.std.proofs.Common.{codes, decimal, ◌∙◌}
 use Rattle.ssq_plans.proofs.Spelled.{two_put}
 use Rattle.ssq_plans.proofs.meta.U32Line.put.Goals as goal

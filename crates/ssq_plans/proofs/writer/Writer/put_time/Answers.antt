@@ -1,4 +1,4 @@
--- The time is put behind the bytes.
+-- The time is put after the bytes.
 use Rattle.std.proofs.Common.{append_assoc, ◌∙◌}
 use Rattle.ssq_plans.specs.Records.{time_or_none}
 use Rattle.ssq_plans.proofs.writer.Writer.put_time.Goals as goal
