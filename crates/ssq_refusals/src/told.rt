@@ -2,13 +2,18 @@
 
 use ssq_accept::accept;
 use std::alloc::{AllocGlobal, Global};
+use std::mem::ManuallyDrop;
 use std::process::Abort;
 use std::test::Fail;
 
 /// `accepted`, or the refusal of a file.
 pub(crate) fn told(alloc: Global, file: &[u8]) -> Result<String, Fail> {
     match accept(alloc, file) {
-        Ok(_accepted) => Ok(String::from_str(alloc, "accepted")?),
+        Ok(accepted) => {
+            // It is not freed: the prover would take it apart.
+            let _kept = ManuallyDrop::new(accepted);
+            Ok(String::from_str(alloc, "accepted")?)
+        }
         Err(refusal) => Ok(format!(in alloc; "{refusal}")?),
     }
 }
