@@ -3,13 +3,18 @@
 use ssq_ast::text;
 use ssq_parse::parse;
 use std::alloc::{AllocGlobal, Global};
+use std::mem::ManuallyDrop;
 use std::process::Abort;
 use std::test::Fail;
 
 /// `read`, or the fault of a file.
 fn told(alloc: Global, file: &[u8]) -> Result<String, Fail> {
     match parse(alloc, file) {
-        Ok(_query) => Ok(String::from_str(alloc, "read")?),
+        Ok(query) => {
+            // It is not freed: the prover would take the tree apart.
+            let _kept = ManuallyDrop::new(query);
+            Ok(String::from_str(alloc, "read")?)
+        }
         Err(fault) => Ok(format!(in alloc; "{fault}")?),
     }
 }
@@ -25,7 +30,7 @@ fn check(rt: &(impl Abort + AllocGlobal), rows: &[(&str, &str)]) -> Result<(), F
 /// The canonical text of a file, or its fault.
 fn shown(alloc: Global, file: &str) -> Result<String, Fail> {
     match parse(alloc, file.as_bytes()) {
-        Ok(query) => Ok(text(alloc, &query)?.into_string()),
+        Ok(query) => Ok(text(alloc, &ManuallyDrop::new(query))?.into_string()),
         Err(fault) => Ok(format!(in alloc; "{fault}")?),
     }
 }
