@@ -1,7 +1,7 @@
 //! Runs of which one call fails, each in turn, with a crash after it.
 
 use crate::grouped::CLOSED;
-use crate::rows::{Row, WORKED};
+use crate::rows::{Row, worked_runs};
 use crate::tests::{CALLS, holds, run_on};
 use ssq_fakes::{FailAt, MemDisk};
 use ssq_run::Ended;
@@ -56,7 +56,7 @@ fn a_fault_and_a_crash_lose_nothing(rt: HostRuntime) -> Result<(), Fail> {
     for call in 0..CALLS {
         for image in &CRASHES {
             assert!(rt;
-                fails_and_goes_on(&rt, alloc, &WORKED[0], FailAt::Disk(call), image)?,
+                fails_and_goes_on(&rt, alloc, &worked_runs()[0], FailAt::Disk(call), image)?,
                 "at call {call}"
             );
         }

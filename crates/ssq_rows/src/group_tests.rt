@@ -1,6 +1,6 @@
 //! Runs of queries that keep state.
 
-use crate::grouped::{CLOSED, IN_FOUR, SHOWN, Shown, WHOLE};
+use crate::grouped::{CLOSED, IN_FOUR, Shown, WHOLE, shown_runs};
 use crate::repeated::REPEATED;
 use crate::rows::{Files, Row};
 use crate::tests::{disk_of, ends_so, has, run_on};
@@ -72,7 +72,7 @@ fn shows_so<R: Threads + Wait + Sync>(
 #[test]
 fn groups_are_shown(rt: HostRuntime) -> Result<(), Fail> {
     let alloc = rt.alloc();
-    for run in &SHOWN {
+    for run in shown_runs() {
         let disk = disk_of(alloc, run.before).expect(&rt, "memory");
         assert!(rt; shows_so(&rt, alloc, run, disk)?);
     }
@@ -87,7 +87,7 @@ fn told_in_four<R: Threads + Wait + Sync>(
 ) -> Result<bool, AllocError> {
     let row = Row {
         words: IN_FOUR,
-        ..row_of(&SHOWN[0])
+        ..row_of(&shown_runs()[0])
     };
     let over = run_on(rt, alloc, &row, disk)?;
     Ok(over.status == 9 && over.out.bytes() == b"stopped 9 OtherPartitions 3 4\n".as_slice())
@@ -97,7 +97,7 @@ fn told_in_four<R: Threads + Wait + Sync>(
 #[test]
 fn partitions_are_kept(rt: HostRuntime) -> Result<(), Fail> {
     let alloc = rt.alloc();
-    let row = row_of(&SHOWN[0]);
+    let row = row_of(&shown_runs()[0]);
     let Ended { disk, .. } = run_on(&rt, alloc, &row, MemDisk::new(alloc))?;
     assert!(rt; told_in_four(&rt, alloc, disk)?);
     Ok(())

@@ -314,7 +314,12 @@ pub(crate) static WHOLE: [Row; 7] = [
     },
 ];
 
-pub(crate) static SHOWN: [Shown; 11] = [
+/// The groups that runs show.
+pub(crate) fn shown_runs() -> &'static [Shown; 11] {
+    &SHOWN
+}
+
+static SHOWN: [Shown; 11] = [
     // The partitions change no sink file.
     Shown {
         words: IN_THREE,

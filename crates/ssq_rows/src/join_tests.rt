@@ -2,7 +2,7 @@
 
 use crate::group_tests::has_all;
 use crate::grouped::IN_THREE;
-use crate::joined::{IN_ANY, JOINED, Joined};
+use crate::joined::{IN_ANY, Joined, joined_runs};
 use crate::rows::{BY_ONE, Files, Row};
 use crate::tests::run;
 use ssq_fakes::{MemDisk, MemInputs, MemLog, MemOut};
@@ -70,7 +70,7 @@ fn joins_so<R: Threads + Wait + Sync>(
 #[test]
 fn joined_rows_are_shown(rt: HostRuntime) -> Result<(), Fail> {
     let alloc = rt.alloc();
-    for joined in &JOINED {
+    for joined in joined_runs() {
         assert!(rt; joins_so(&rt, alloc, BY_ONE, joined, joined.files)?);
     }
     Ok(())
@@ -81,7 +81,7 @@ fn joined_rows_are_shown(rt: HostRuntime) -> Result<(), Fail> {
 fn partitions_join_alike(rt: HostRuntime) -> Result<(), Fail> {
     let alloc = rt.alloc();
     for words in &PARTITIONS {
-        assert!(rt; joins_so(&rt, alloc, *words, &JOINED[0], IN_ANY)?);
+        assert!(rt; joins_so(&rt, alloc, *words, &joined_runs()[0], IN_ANY)?);
     }
     Ok(())
 }

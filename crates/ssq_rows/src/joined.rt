@@ -14,7 +14,12 @@ pub(crate) struct Joined {
     pub(crate) files: Files,
 }
 
-pub(crate) static JOINED: [Joined; 3] = [
+/// The runs of joins.
+pub(crate) fn joined_runs() -> &'static [Joined; 3] {
+    &JOINED
+}
+
+static JOINED: [Joined; 3] = [
     // A row at the end of the bound meets its partner as it comes. Both are kept then as rows that met one.
     Joined {
         query: b"CREATE STREAM l (id BIGINT, t TIMESTAMP) FROM 'l' WATERMARK FOR t DELAY '10 minutes'; CREATE STREAM r (id BIGINT, t TIMESTAMP) FROM 'r' WATERMARK FOR t DELAY '10 minutes'; SELECT l.id, l.t AS lt, r.t AS rt FROM l JOIN r ON l.id = r.id AND r.t BETWEEN l.t AND l.t + INTERVAL '1 hour' OUTPUT APPEND;",

@@ -209,7 +209,12 @@ pub(crate) const TOLD: &[u8] =
 
 pub(crate) const FAULT: &[u8] = b"stopped 7 DiskFault\n";
 
-pub(crate) static WORKED: [Row; 14] = [
+/// The worked runs. A function that names the table itself has all of it in its proof.
+pub(crate) fn worked_runs() -> &'static [Row; 14] {
+    &WORKED
+}
+
+static WORKED: [Row; 14] = [
     Row {
         words: BY_TWO,
         query: FILTER,

@@ -2,7 +2,7 @@
 
 use crate::rows::{
     BY_TWO, COMMIT_0, DONE, FAULT, FILTER, Files, HALF, META, OUT_0, OUT_1, PLAN_0, PLAN_1,
-    REFUSED, RUN, Row, THREE, TOLD, WORKED,
+    REFUSED, RUN, Row, THREE, TOLD, worked_runs,
 };
 use ssq_fakes::{FailAt, MemDisk, MemInputs, MemLog, MemOut, OpenGate};
 use ssq_files::{FolderDisk, FolderInputs};
@@ -142,7 +142,7 @@ pub(crate) fn ends_so<R: Threads + Wait + Sync>(
 #[test]
 fn worked_rows(rt: HostRuntime) -> Result<(), Fail> {
     let alloc = rt.alloc();
-    for row in &WORKED {
+    for row in worked_runs() {
         let disk = disk_of(alloc, row.before).expect(&rt, "memory");
         assert!(rt; ends_so(&rt, alloc, row, disk)?);
     }
@@ -226,7 +226,7 @@ fn queries_are_not_run(rt: HostRuntime) -> Result<(), Fail> {
 #[test]
 fn limits_are_told(rt: HostRuntime) -> Result<(), Fail> {
     let alloc = rt.alloc();
-    let row = &WORKED[2];
+    let row = &worked_runs()[2];
     let log = MemLog::repeat(alloc, b"{}", 1_099_511_627_777)?;
     let over = run_log(&rt, alloc, row, log, MemOut::new(alloc))?;
     assert_eq!(rt; over.status, 11);
@@ -259,7 +259,7 @@ fn limits_are_told(rt: HostRuntime) -> Result<(), Fail> {
 #[test]
 fn one_of_many_parts_grows(rt: HostRuntime) -> Result<(), Fail> {
     let alloc = rt.alloc();
-    let row = &WORKED[0];
+    let row = &worked_runs()[0];
     let mut inputs = MemInputs::new(alloc).with_text(alloc, "q.sql", FILTER)?;
     for part in 0..64 {
         let lines = if part == 40 { THREE } else { b"".as_slice() };
@@ -284,7 +284,7 @@ fn one_of_many_parts_grows(rt: HostRuntime) -> Result<(), Fail> {
 #[test]
 fn faults_have_their_status(rt: HostRuntime) -> Result<(), Fail> {
     let alloc = rt.alloc();
-    let row = &WORKED[0];
+    let row = &worked_runs()[0];
 
     // The output fails once the round is done: the checkpoint is whole, and a further run has nothing to do.
     let out = MemOut::new(alloc).failing(vec![in alloc; 0]?);
@@ -320,7 +320,7 @@ fn faults_have_their_status(rt: HostRuntime) -> Result<(), Fail> {
 #[test]
 fn a_commit_that_is_not_synced(rt: HostRuntime) -> Result<(), Fail> {
     let alloc = rt.alloc();
-    let row = &WORKED[0];
+    let row = &worked_runs()[0];
     let disk = MemDisk::new(alloc).failing(vec![in alloc; COMMIT_SYNC]?);
     let Ended {
         status,
@@ -370,10 +370,10 @@ fn stopped_and_crashed<R: Threads + Wait + Sync>(
 #[test]
 fn twice_the_first_sync_fails(rt: HostRuntime) -> Result<(), Fail> {
     let alloc = rt.alloc();
-    let row = &WORKED[5];
+    let row = &worked_runs()[5];
     for (image, left) in IMAGES.iter().zip(&AT_THE_SYNC) {
         let disk = MemDisk::new(alloc).failing(vec![in alloc; ROWS_SYNC]?);
-        let over = run_on(&rt, alloc, &WORKED[0], disk)?;
+        let over = run_on(&rt, alloc, &worked_runs()[0], disk)?;
         assert_eq!(rt; over.status, 7);
         let mut crashed = over.disk.crash_at(alloc, u64::MAX, image)?;
         assert!(rt; holds(alloc, &mut crashed, left));
