@@ -13,6 +13,3 @@ mod plain;
 pub use evaluate::{eval, eval_group};
 pub use fault::EvalFault;
 pub use plain::{passes, show};
-
-#[cfg(test)]
-mod tests;

@@ -24,6 +24,3 @@ pub use inputs::MemInputs;
 pub use log::MemLog;
 pub use output::MemOut;
 pub use plan::FailAt;
-
-#[cfg(test)]
-mod tests;

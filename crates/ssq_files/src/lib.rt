@@ -21,6 +21,3 @@ pub use disk::{FolderDisk, FolderStage, SealedFile};
 pub use inputs::FolderInputs;
 pub use log::FileLog;
 pub use output::StandardOutput;
-
-#[cfg(test)]
-mod tests;

@@ -11,8 +11,6 @@ mod part;
 mod plan;
 mod seen;
 mod seen_line;
-#[cfg(test)]
-mod tests;
 mod writer;
 
 pub use commit::{Commit, read_commit, write_commit};

@@ -90,6 +90,3 @@ fn number_after(text: &[u8], front: &[u8]) -> Option<u32>
         _ => None,
     }
 }
-
-#[cfg(test)]
-mod tests;

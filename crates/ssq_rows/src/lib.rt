@@ -5,6 +5,8 @@
 #[cfg(test)]
 mod fault_tests;
 #[cfg(test)]
+mod folder_tests;
+#[cfg(test)]
 mod generated;
 #[cfg(test)]
 mod group_tests;

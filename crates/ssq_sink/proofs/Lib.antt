@@ -1,7 +1,6 @@
 pub mod Keeping
 pub mod LastRows
 pub mod Passes
-pub mod Printed
 pub mod Rereading
 pub mod Rows
 pub mod Sorting

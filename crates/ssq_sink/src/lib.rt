@@ -14,6 +14,3 @@ pub use epoch::{epoch_text, order_is_free};
 pub use fault::SinkFault;
 pub use order::row_orders_are_total;
 pub use reading::{Counted, Reading, counted_table, table};
-
-#[cfg(test)]
-mod tests;

@@ -1,5 +1,5 @@
 //! The records of two worked checkpoints, and bytes that are no record's.
-use super::{
+use ssq_plans::{
     Commit, Meta, PartEnd, Plan, SeenBy, next_epoch, read_commit, read_meta, read_plan,
     write_commit, write_meta, write_plan,
 };

@@ -1,10 +1,10 @@
 //! Worked values of expressions, as tables.
 
-use super::{EvalFault, eval, passes};
-use crate::plain::project;
+use crate::bound::bound_of;
 use sqlite_items::Boxed;
-use ssq_shape::{Arithmetic, Comparison, Output, Typed};
-use ssq_value::{ColType, Text, Value};
+use ssq_expr::{EvalFault, eval, passes, show};
+use ssq_shape::{Arithmetic, Comparison, Typed};
+use ssq_value::{Text, Value};
 use std::alloc::Global;
 use std::process::Abort;
 use std::test::Fail;
@@ -425,26 +425,6 @@ fn above_ten(alloc: Global) -> Result<Typed, Fail> {
     Ok(Typed::Compared(Comparison::Greater, v, ten))
 }
 
-/// `id, - v AS w`, of the first two columns.
-fn outputs(alloc: Global) -> Result<[Output; 2], Fail> {
-    let negated = Typed::Negated(column(alloc, 1)?);
-    let name = Text::from_str(alloc, "w")?;
-    let w = Output {
-        name,
-        kind: ColType::Bigint,
-        value: negated,
-        key: None,
-    };
-    let name = Text::from_str(alloc, "id")?;
-    let id = Output {
-        name,
-        kind: ColType::Str,
-        value: Typed::Column(0),
-        key: None,
-    };
-    Ok([id, w])
-}
-
 #[test]
 fn rows_are_filtered(rt: HostRuntime) -> Result<(), Fail> {
     let alloc = rt.alloc();
@@ -460,10 +440,15 @@ fn rows_are_filtered(rt: HostRuntime) -> Result<(), Fail> {
 #[test]
 fn rows_are_shown(rt: HostRuntime) -> Result<(), Fail> {
     let alloc = rt.alloc();
-    let outputs = outputs(alloc)?;
-    let fault = project(alloc, &outputs, &[Value::Null, Value::Int(i64::MIN)]);
+    let bound = bound_of(
+        alloc,
+        b"CREATE STREAM s (id BIGINT, v BIGINT) FROM 's'; SELECT id, - v AS w FROM s OUTPUT APPEND;",
+    )?;
+    let fault = show(alloc, &bound, &[Value::Null, Value::Int(i64::MIN)]);
     assert!(rt; fault.is_err());
-    let row = project(alloc, &outputs, &[Value::Truth(true), Value::Int(5)])?;
-    assert!(rt; row.as_slice() == [Value::Truth(true), Value::Int(-5)].as_slice());
+    let Some(row) = show(alloc, &bound, &[Value::Int(7), Value::Int(5)])? else {
+        return Err(Fail::from("no row"));
+    };
+    assert!(rt; row.as_slice() == [Value::Int(7), Value::Int(-5)].as_slice());
     Ok(())
 }

@@ -1,7 +1,7 @@
 use Rattle.std.specs.List.{All}
 use Rattle.ssq_time.specs.Time.{IsStampTime}
 use Rattle.ssq_value.specs.Kind.{IfTime}
-use Rattle.ssq_sink.proofs.tests.read_rows.Given as goal
+use Rattle.ssq_calls.proofs.sink.read_rows.Given as goal
 
 -- each row so far has a text
 abbrev pub invariant-loop-line : goal.invariant-loop-line

@@ -5,27 +5,12 @@ ghost use Rattle.std.specs.List.{All};
 ghost use Rattle.ssq_time.specs.Time.{IsStampTime};
 ghost use Rattle.ssq_value.specs.Kind.{IfTime};
 
-use crate::epoch::rows_text;
-use ssq_json::{Heads, read_row};
-use ssq_value::{ColType, Column, Row, Schema, Text};
-use std::alloc::{AllocError, Global};
+use crate::bound::bound_of;
+use ssq_json::read_row;
+use ssq_sink::epoch_text;
+use ssq_value::{Row, Schema};
+use std::alloc::Global;
 use std::test::Fail;
-
-fn two_columns(alloc: Global) -> Result<Schema, AllocError> {
-    let id = Text::from_str(alloc, "id")?;
-    let name = Text::from_str(alloc, "s")?;
-    let columns = vec![in alloc;
-        Column {
-            name: id,
-            kind: ColType::Bigint
-        },
-        Column {
-            name,
-            kind: ColType::Str
-        },
-    ]?;
-    Ok(Schema::new(columns, None))
-}
 
 /// The rows of the lines, of each line that is a row.
 #[tactic(auto, using(crate::proofs::Printed::rows_more))]
@@ -44,8 +29,13 @@ fn read_rows(alloc: Global, schema: &Schema, lines: &[&str]) -> Result<Vec<Row>,
 #[test]
 fn rows_are_sorted_and_written(rt: HostRuntime) -> Result<(), Fail> {
     let alloc = rt.alloc();
-    let schema = two_columns(alloc)?;
-    let heads = Heads::new(alloc, schema.columns())?;
+    let bound = bound_of(
+        alloc,
+        b"CREATE STREAM s (id BIGINT, s STRING) FROM 's'; SELECT id, s FROM s OUTPUT APPEND;",
+    )?;
+    let [stream] = bound.streams.as_slice() else {
+        return Err(Fail::from("one stream"));
+    };
     let first = r#"{"id":2,"s":"b\"c"}"#;
     let second = r#"{"id":2,"s":null}"#;
     let third = r#"{"id":null,"s":"z"}"#;
@@ -61,8 +51,8 @@ fn rows_are_sorted_and_written(rt: HostRuntime) -> Result<(), Fail> {
         ),
         ([].as_slice(), ""),
     ] {
-        let rows = read_rows(alloc, &schema, lines)?;
-        let text = rows_text(alloc, &heads, &[], rows)?;
+        let rows = read_rows(alloc, &stream.schema, lines)?;
+        let text = epoch_text(alloc, &bound, rows)?;
         assert_eq!(rt; text.as_str(), wanted, "{lines:?}");
     }
     Ok(())

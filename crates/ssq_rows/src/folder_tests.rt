@@ -1,6 +1,6 @@
 //! What no clause says: what a folder and a file of lines hold.
 
-use crate::{FolderDisk, FolderInputs};
+use ssq_files::{FolderDisk, FolderInputs};
 use ssq_outside::{Disk, Inputs, LineError, Log, Name, Stage};
 use std::alloc::Global;
 use std::fs::OpenOptions;

@@ -1,7 +1,7 @@
 //! Texts of names, written out by hand.
 
-use crate::{name_text, read_name};
 use ssq_outside::Name;
+use ssq_plans::{name_text, read_name};
 
 const TEXTS: [(Name, &[u8]); 7] = [
     (Name::Meta, b"metadata"),

@@ -1,6 +1,6 @@
 //! Each call once, each kind of fault once, and crashes of one small history.
 
-use crate::{FailAt, MemDisk, MemInputs, MemLog, MemOut, OpenGate, each_image_is_picked};
+use ssq_fakes::{FailAt, MemDisk, MemInputs, MemLog, MemOut, OpenGate, each_image_is_picked};
 use ssq_outside::{
     Disk, DiskError, DiskFault, Gate, InputError, Inputs, Kind, LineError, Log, LogFault, Name,
     OutError, Output, Stage, StageError, TaskId, seal,
