@@ -139,6 +139,32 @@ pub(crate) fn ends_so<R: Threads + Wait + Sync>(
     Ok(out.bytes() == row.out && status == row.status && holds(alloc, &mut disk, row.after))
 }
 
+/// The disk of a run, where it ended with this status and told this.
+pub(crate) fn disk_after(over: Over, status: u8, told: &[u8]) -> Option<MemDisk> {
+    let Ended {
+        status: ended,
+        disk,
+        inputs: _,
+        out,
+    } = over;
+    if ended == status && out.bytes() == told {
+        Some(disk)
+    } else {
+        None
+    }
+}
+
+/// Whether a run of the row over the disk leaves all files of the first row.
+fn is_done_after<R: Threads + Wait + Sync>(
+    rt: &R,
+    alloc: Global,
+    row: &Row,
+    disk: MemDisk,
+) -> Result<bool, AllocError> {
+    let Ended { mut disk, .. } = run_on(rt, alloc, row, disk)?;
+    Ok(holds(alloc, &mut disk, DONE))
+}
+
 #[test]
 fn worked_rows(rt: HostRuntime) -> Result<(), Fail> {
     let alloc = rt.alloc();
@@ -222,19 +248,19 @@ fn queries_are_not_run(rt: HostRuntime) -> Result<(), Fail> {
     Ok(())
 }
 
-/// A part with too many lines, and a stream with too many parts.
 #[test]
-fn limits_are_told(rt: HostRuntime) -> Result<(), Fail> {
+fn too_many_lines_are_told(rt: HostRuntime) -> Result<(), Fail> {
     let alloc = rt.alloc();
-    let row = &worked_runs()[2];
     let log = MemLog::repeat(alloc, b"{}", 1_099_511_627_777)?;
-    let over = run_log(&rt, alloc, row, log, MemOut::new(alloc))?;
-    assert_eq!(rt; over.status, 11);
-    assert_eq!(rt;
-        over.out.bytes(),
-        b"stopped 11 Full lines s 0 1099511627777\n".as_slice()
-    );
+    let over = run_log(&rt, alloc, &worked_runs()[2], log, MemOut::new(alloc))?;
+    let told = b"stopped 11 Full lines s 0 1099511627777\n";
+    assert!(rt; disk_after(over, 11, told).is_some());
+    Ok(())
+}
 
+#[test]
+fn too_many_parts_are_told(rt: HostRuntime) -> Result<(), Fail> {
+    let alloc = rt.alloc();
     let mut inputs = MemInputs::new(alloc).with_text(alloc, "q.sql", FILTER)?;
     for _ in 0..65 {
         inputs = inputs.with_part(alloc, "s", MemLog::torn(alloc, b"")?)?;
@@ -242,16 +268,12 @@ fn limits_are_told(rt: HostRuntime) -> Result<(), Fail> {
     let over = run(
         &rt,
         alloc,
-        row,
+        &worked_runs()[2],
         MemDisk::new(alloc),
         inputs,
         MemOut::new(alloc),
     )?;
-    assert_eq!(rt; over.status, 11);
-    assert_eq!(rt;
-        over.out.bytes(),
-        b"stopped 11 Full parts s 65\n".as_slice()
-    );
+    assert!(rt; disk_after(over, 11, b"stopped 11 Full parts s 65\n").is_some());
     Ok(())
 }
 
@@ -273,44 +295,33 @@ fn one_of_many_parts_grows(rt: HostRuntime) -> Result<(), Fail> {
         inputs,
         MemOut::new(alloc),
     )?;
-    assert_eq!(rt; over.status, 0);
-    assert_eq!(rt; over.out.bytes(), TOLD);
-    let mut disk = over.disk;
+    let mut disk = disk_after(over, 0, TOLD).expect(&rt, "both epochs");
     assert!(rt; has(alloc, &mut disk, OUT_0) && has(alloc, &mut disk, OUT_1));
     Ok(())
 }
 
-/// The output fails, and then the log.
+/// The output fails once the round is done: the checkpoint is whole, and a further run has nothing to do.
 #[test]
-fn faults_have_their_status(rt: HostRuntime) -> Result<(), Fail> {
+fn a_failing_output_is_told(rt: HostRuntime) -> Result<(), Fail> {
     let alloc = rt.alloc();
     let row = &worked_runs()[0];
-
-    // The output fails once the round is done: the checkpoint is whole, and a further run has nothing to do.
-    let out = MemOut::new(alloc).failing(vec![in alloc; 0]?);
     let log = MemLog::torn(alloc, THREE)?;
-    let Ended {
-        status,
-        mut disk,
-        inputs: _,
-        out,
-    } = run_log(&rt, alloc, row, log, out)?;
-    assert_eq!(rt; status, 8);
-    assert_eq!(rt; out.bytes(), b"stopped 8 OutFault\n".as_slice());
+    let out = MemOut::new(alloc).failing(vec![in alloc; 0]?);
+    let over = run_log(&rt, alloc, row, log, out)?;
+    let mut disk = disk_after(over, 8, b"stopped 8 OutFault\n").expect(&rt, "its fault");
     assert!(rt; holds(alloc, &mut disk, DONE));
     let over = run_on(&rt, alloc, row, disk)?;
-    assert_eq!(rt; over.out.bytes(), b"done epochs 2\n".as_slice());
+    assert!(rt; disk_after(over, 0, b"done epochs 2\n").is_some());
+    Ok(())
+}
 
-    // The log fails at the first line that is read: the epoch is planned and no more.
+/// The log fails at the first line that is read: the epoch is planned and no more.
+#[test]
+fn a_failing_log_is_told(rt: HostRuntime) -> Result<(), Fail> {
+    let alloc = rt.alloc();
     let log = MemLog::torn(alloc, THREE)?.failing(vec![in alloc; 1]?);
-    let Ended {
-        status,
-        mut disk,
-        inputs: _,
-        out,
-    } = run_log(&rt, alloc, row, log, MemOut::new(alloc))?;
-    assert_eq!(rt; status, 6);
-    assert_eq!(rt; out.bytes(), b"stopped 6 LogFault\n".as_slice());
+    let over = run_log(&rt, alloc, &worked_runs()[0], log, MemOut::new(alloc))?;
+    let mut disk = disk_after(over, 6, b"stopped 6 LogFault\n").expect(&rt, "its fault");
     assert!(rt; holds(alloc, &mut disk, &[META, PLAN_0]));
     Ok(())
 }
@@ -322,27 +333,35 @@ fn a_commit_that_is_not_synced(rt: HostRuntime) -> Result<(), Fail> {
     let alloc = rt.alloc();
     let row = &worked_runs()[0];
     let disk = MemDisk::new(alloc).failing(vec![in alloc; COMMIT_SYNC]?);
-    let Ended {
-        status,
-        mut disk,
-        inputs: _,
-        out,
-    } = run_on(&rt, alloc, row, disk)?;
-    assert_eq!(rt; status, 7);
-    assert_eq!(rt; out.bytes(), FAULT);
+    let over = run_on(&rt, alloc, row, disk)?;
+    let mut disk = disk_after(over, 7, FAULT).expect(&rt, "its fault");
     for image in &IMAGES {
         let crashed = disk.crash_at(alloc, u64::MAX, image)?;
-        let Ended { mut disk, .. } = run_on(&rt, alloc, row, crashed)?;
-        assert!(rt; holds(alloc, &mut disk, DONE));
+        assert!(rt; is_done_after(&rt, alloc, row, crashed)?);
     }
     assert!(rt; holds(alloc, &mut disk, &[META, PLAN_0, COMMIT_0, OUT_0]));
-    let Ended { mut disk, .. } = run_on(&rt, alloc, row, disk)?;
-    assert!(rt; holds(alloc, &mut disk, DONE));
+    assert!(rt; is_done_after(&rt, alloc, row, disk)?);
     Ok(())
 }
 
 /// What a crash leaves of the first row's disk where the sync after the second epoch's rows failed: without these rows, or with them.
 static AT_THE_SYNC: [Files; 2] = [&[META, PLAN_0, PLAN_1, COMMIT_0, OUT_0], HALF];
+
+/// The disk of the first row's run whose sync after the second epoch's rows failed, and a crash that leaves these files.
+fn crashed_at_the_sync<R: Threads + Wait + Sync>(
+    rt: &R,
+    alloc: Global,
+    image: &[u64],
+    left: Files,
+) -> Result<Option<MemDisk>, AllocError> {
+    let disk = MemDisk::new(alloc).failing(vec![in alloc; ROWS_SYNC]?);
+    let Ended { status, disk, .. } = run_on(rt, alloc, &worked_runs()[0], disk)?;
+    let mut crashed = disk.crash_at(alloc, u64::MAX, image)?;
+    if status != 7 || !holds(alloc, &mut crashed, left) {
+        return Ok(None);
+    }
+    Ok(Some(disk.crash_at(alloc, u64::MAX, image)?))
+}
 
 /// The disk after a run whose first sync failed, and a crash.
 fn stopped_and_crashed<R: Threads + Wait + Sync>(
@@ -353,15 +372,10 @@ fn stopped_and_crashed<R: Threads + Wait + Sync>(
     image: &[u64],
 ) -> Result<Option<MemDisk>, AllocError> {
     let disk = disk.failing(vec![in alloc; FailAt::Disk(0)]?);
-    let Ended {
-        status,
-        disk,
-        out,
-        ..
-    } = run_on(rt, alloc, row, disk)?;
-    if status != 7 || out.bytes() != FAULT {
+    let over = run_on(rt, alloc, row, disk)?;
+    let Some(disk) = disk_after(over, 7, FAULT) else {
         return Ok(None);
-    }
+    };
     Ok(Some(disk.crash_at(alloc, u64::MAX, image)?))
 }
 
@@ -372,12 +386,7 @@ fn twice_the_first_sync_fails(rt: HostRuntime) -> Result<(), Fail> {
     let alloc = rt.alloc();
     let row = &worked_runs()[5];
     for (image, left) in IMAGES.iter().zip(&AT_THE_SYNC) {
-        let disk = MemDisk::new(alloc).failing(vec![in alloc; ROWS_SYNC]?);
-        let over = run_on(&rt, alloc, &worked_runs()[0], disk)?;
-        assert_eq!(rt; over.status, 7);
-        let mut crashed = over.disk.crash_at(alloc, u64::MAX, image)?;
-        assert!(rt; holds(alloc, &mut crashed, left));
-        let disk = over.disk.crash_at(alloc, u64::MAX, image)?;
+        let disk = crashed_at_the_sync(&rt, alloc, image, left)?.expect(&rt, "its fault");
         let disk = stopped_and_crashed(&rt, alloc, row, disk, image)?.expect(&rt, "stopped");
         let disk = stopped_and_crashed(&rt, alloc, row, disk, image)?.expect(&rt, "stopped");
         assert!(rt; ends_so(&rt, alloc, row, disk)?);
