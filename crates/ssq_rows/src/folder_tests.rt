@@ -2,8 +2,9 @@
 
 use ssq_files::{FolderDisk, FolderInputs};
 use ssq_outside::{Disk, Inputs, LineError, Log, Name, Stage};
-use std::alloc::Global;
-use std::fs::OpenOptions;
+use std::alloc::{AllocGlobal, Global};
+use std::env::Env;
+use std::fs::{Files, OpenOptions};
 use std::io::Write;
 use std::process::Abort;
 use std::{env, fs, process};
@@ -61,20 +62,25 @@ fn reads<L: Log>(alloc: Global, log: &mut L, lines: &[&[u8]]) -> bool {
     all
 }
 
-#[test]
-fn a_folder_and_a_file_of_lines(rt: HostRuntime) {
+/// A new folder for a test.
+fn folder<R: Abort + AllocGlobal + Env + Files>(rt: &R, own: u32, name: &str) -> String {
     let alloc = rt.alloc();
-    let temporary = env::temp_dir(&rt).expect(&rt, "the folder of temporary files");
-    let own = process::id(rt.process());
-    let base = format!(in alloc; "{}/ssq_files-{own}", temporary.display()).expect(&rt, "memory");
-    assert!(rt; base.len() < 150);
-    let _ = fs::remove_dir_all(&rt, base.as_str());
-    fs::create_dir(&rt, base.as_str()).expect(&rt, "the test's folder");
+    let temporary = env::temp_dir(rt).expect(rt, "the folder of temporary files");
+    let base = format!(in alloc; "{}/ssq_{name}-{own}", temporary.display()).expect(rt, "memory");
+    let _ = fs::remove_dir_all(rt, base.as_str());
+    fs::create_dir(rt, base.as_str()).expect(rt, "the test's folder");
+    base
+}
 
-    // A folder that is not there is an empty disk. It is made with the first file.
-    let root = format!(in alloc; "{base}/checkpoint").expect(&rt, "memory");
-    assert!(rt; root.len() <= 192);
-    let mut disk = FolderDisk::new(rt, root.as_str());
+/// A folder that is not there is an empty disk. It is made with the first file.
+#[test]
+fn a_folder_has_what_is_published(rt: HostRuntime) {
+    let alloc = rt.alloc();
+    let root = folder(&rt, process::id(rt.process()), "published");
+    assert!(rt; root.len() <= 180);
+    let path = format!(in alloc; "{root}/checkpoint").expect(&rt, "memory");
+    assert!(rt; path.len() <= 192);
+    let mut disk = FolderDisk::new(rt, path.as_str());
     assert_eq!(rt; disk.sync_names(), Ok(()));
     assert!(rt; holds(alloc, &mut disk, &[]));
     for (name, bytes) in FILES {
@@ -85,24 +91,59 @@ fn a_folder_and_a_file_of_lines(rt: HostRuntime) {
     assert_eq!(rt; disk.remove(Name::Snapshot(3, 9)), Ok(()));
     assert_eq!(rt; disk.remove(Name::Snapshot(4, 9)), Ok(()));
     assert_eq!(rt; disk.sync_names(), Ok(()));
-
-    // A later run takes away what was left aside, and leaves other files alone.
-    for path in FOREIGN {
-        let foreign = format!(in alloc; "{root}/{path}").expect(&rt, "memory");
-        fs::write(&rt, foreign.as_str(), "foreign").expect(&rt, "a foreign file");
-    }
-    let aside = format!(in alloc; "{root}/aside/7").expect(&rt, "memory");
-    fs::write(&rt, aside.as_str(), "v1").expect(&rt, "a file aside");
-    let mut disk = FolderDisk::new(rt, root.as_str());
     assert!(rt; holds(alloc, &mut disk, &FILES[1..]));
-    assert_eq!(rt; disk.sync_names(), Ok(()));
-    assert!(rt; fs::metadata(&rt, aside.as_str()).is_err());
-    for path in FOREIGN {
-        let foreign = format!(in alloc; "{root}/{path}").expect(&rt, "memory");
-        assert!(rt; fs::metadata(&rt, foreign.as_str()).is_ok(), "{path}");
-    }
+    fs::remove_dir_all(&rt, root.as_str()).expect(&rt, "the folder goes");
+}
 
-    // A last line without its end is not there until its end comes.
+/// Writes a file in a folder.
+fn write(rt: &(impl Abort + Files), alloc: Global, root: &str, path: &str) {
+    let path = format!(in alloc; "{root}/{path}").expect(rt, "memory");
+    fs::write(rt, path.as_str(), "foreign").expect(rt, "a file");
+}
+
+/// Whether a file is in a folder.
+fn is_there(rt: &(impl Abort + Files), alloc: Global, root: &str, path: &str) -> bool {
+    let path = format!(in alloc; "{root}/{path}").expect(rt, "memory");
+    fs::metadata(rt, path.as_str()).is_ok()
+}
+
+/// A later run takes away what was left aside, and leaves other files alone.
+#[test]
+fn a_later_run_clears_what_is_aside(rt: HostRuntime) {
+    let alloc = rt.alloc();
+    let root = folder(&rt, process::id(rt.process()), "aside");
+    assert!(rt; root.len() <= 192);
+    let mut disk = FolderDisk::new(rt, root.as_str());
+    put(&rt, alloc, &mut disk, Name::Plan(9), b"nine");
+    assert_eq!(rt; disk.sync_names(), Ok(()));
+    for path in FOREIGN {
+        write(&rt, alloc, root.as_str(), path);
+    }
+    write(&rt, alloc, root.as_str(), "aside/7");
+    let mut later = FolderDisk::new(rt, root.as_str());
+    assert!(rt; holds(alloc, &mut later, &[(Name::Plan(9), b"nine")]));
+    assert_eq!(rt; later.sync_names(), Ok(()));
+    assert!(rt; !is_there(&rt, alloc, root.as_str(), "aside/7"));
+    for path in FOREIGN {
+        assert!(rt; is_there(&rt, alloc, root.as_str(), path), "{path}");
+    }
+    fs::remove_dir_all(&rt, root.as_str()).expect(&rt, "the folder goes");
+}
+
+/// Adds a line's end to a file.
+fn end_line(rt: &(impl Abort + Files), path: &str) {
+    let mut file = OpenOptions::new()
+        .append(true)
+        .open(rt, path)
+        .expect(rt, "the log");
+    file.write_all(b"c\n").expect(rt, "the log grows");
+}
+
+/// A last line without its end is not there until its end comes.
+#[test]
+fn a_file_of_lines_is_a_log(rt: HostRuntime) {
+    let alloc = rt.alloc();
+    let base = folder(&rt, process::id(rt.process()), "lines");
     let stream = format!(in alloc; "{base}/n").expect(&rt, "memory");
     let path = format!(in alloc; "{base}/n.0.jsonl").expect(&rt, "memory");
     fs::write(&rt, path.as_str(), "a\n\nbb\ncc").expect(&rt, "the log");
@@ -115,18 +156,25 @@ fn a_folder_and_a_file_of_lines(rt: HostRuntime) {
     assert!(rt; reads(alloc, &mut log, &[b"a", b"", b"bb"]));
     let mut line = Vec::new(alloc);
     assert_eq!(rt; log.line(3, &mut line), Err(LineError::Short { found: 3 }));
-    let mut file = OpenOptions::new()
-        .append(true)
-        .open(&rt, path.as_str())
-        .expect(&rt, "the log");
-    file.write_all(b"c\n").expect(&rt, "the log grows");
+    end_line(&rt, path.as_str());
     assert!(rt; reads(alloc, &mut log, &[b"a", b"", b"bb", b"ccc"]));
     inputs.give_back(log);
+    fs::remove_dir_all(&rt, base.as_str()).expect(&rt, "the folder goes");
+}
+
+/// The front of a file, and nothing where there is none.
+#[test]
+fn a_text_is_read_by_its_path(rt: HostRuntime) {
+    let alloc = rt.alloc();
+    let base = folder(&rt, process::id(rt.process()), "text");
+    let path = format!(in alloc; "{base}/q.sql").expect(&rt, "memory");
+    fs::write(&rt, path.as_str(), "a\n\nbb").expect(&rt, "the file");
+    let mut inputs = FolderInputs::new(rt);
     let text = inputs
         .text(alloc, path.as_str(), 4)
         .expect(&rt, "the front of the file");
     assert_eq!(rt; text.as_slice(), b"a\n\nb".as_slice());
-    for absent in ["", "no\0file", base.as_str(), stream.as_str()] {
+    for absent in ["", "no\0file", base.as_str()] {
         let text = inputs.text(alloc, absent, 4).expect(&rt, "no file");
         assert!(rt; text.is_empty(), "{absent:?}");
     }
