@@ -1,5 +1,5 @@
 -- What holds of ON holds of each of its parts, and of its bound.
-use Rattle.std.proofs.Common.{◌≡◌, refl, inl, inr, ℕ, Bool, true, false, not, ◌&&◌, ◌||◌, List, [], ◌∷◌, ◌++◌, map, Option, Some, None}
+use Rattle.std.proofs.Common.{◌≡◌, refl, inl, ℕ, Bool, true, false, not, ◌&&◌, ◌||◌, List, [], ◌∷◌, ◌++◌, map, Option, Some, None}
 use Rattle.std.specs.Prelude.{if◌then◌else◌, slice_get, IfSome}
 use Rattle.std.specs.List.{AllByRecursion, flat_map}
 use Rattle.ssq_value.specs.declared.column.ColType.{ColType}
@@ -13,7 +13,7 @@ use Rattle.ssq_check.specs.declared.scope.Scope.{Scope}
 use Rattle.ssq_check.specs.declared.scope.Within.TheVariants as within
 use Rattle.ssq_check.specs.Broken.{Rule}
 use Rattle.ssq_check.specs.Fault.{AreNone}
-use Rattle.ssq_check.specs.Joined.{Conjunct, conjuncts, is_and, is_bound, are_typed, between_at, is_misplaced, BoundRule, seen_by, BoundFaults}
+use Rattle.ssq_check.specs.Joined.{Conjunct, conjuncts, is_and, is_bound, are_typed, between_at, is_between, is_misplaced, betweens, StraysAmong, BoundFaults}
 use Rattle.ssq_check.specs.Names.{is_there}
 use Rattle.ssq_check.specs.Rules.{kind, of_one, together, between_kind}
 use Rattle.ssq_bind.specs.Joins.{bound_by, time_bound}
@@ -68,15 +68,15 @@ module _ (rows : Scope) where
     FirstHas es = IfSome (slice_get (flat_map (λ e. listed (time_bound names e)) es) 0) Q
 
     -- a BETWEEN that may stand there is the bound; else the first after it is
-    value_has : (value : Expr) (parts : List Conjunct) → P value → AreNone (BoundRule (between_at value) (is_misplaced rows false value))
-        → AreNone (BoundFaults rows (seen_by (between_at value) false) parts) → (AreNone (BoundFaults rows false parts) → FirstHas (map value_in parts)) → FirstHas (value ∷ map value_in parts)
-    unfolding time_bound between_at is_misplaced
-    value_has (expr.Between' p (only a) at q (only b) r (only c)) parts is here more behind =
-        bounds a b c at is (unbroken_bound at (is_bound rows a b c) (are_typed rows a b c) (between_typed a b c at (typed (expr.Between' p (only a) at q (only b) r (only c)) is)) here)
-    value_has _ parts is here more behind = behind more
+    value_has : (at : ℕ) (value : Expr) (parts : List Conjunct) → P value
+        → AreNone (StraysAmong rows (if is_between value then record { at = at; value = value } ∷ betweens parts else betweens parts))
+        → (AreNone (BoundFaults rows parts) → FirstHas (map value_in parts)) → FirstHas (value ∷ map value_in parts)
+    unfolding time_bound between_at is_misplaced BoundFaults
+    value_has place (expr.Between' p (only a) at q (only b) r (only c)) parts is none behind =
+        bounds a b c at is (unbroken_bound at (is_bound rows a b c) (are_typed rows a b c) (between_typed a b c at (typed (expr.Between' p (only a) at q (only b) r (only c)) is)) (λ c at own. none c at (inl own)))
+    value_has place _ parts is none behind = behind none
 
-    pub first_has : (parts : List Conjunct) → AllByRecursion (λ (part : Conjunct). P part.value) parts → AreNone (BoundFaults rows false parts) → FirstHas (map value_in parts)
+    pub first_has : (parts : List Conjunct) → AllByRecursion (λ (part : Conjunct). P part.value) parts → AreNone (BoundFaults rows parts) → FirstHas (map value_in parts)
     unfolding BoundFaults
     first_has [] all none = tt
-    first_has (part ∷ parts) all none =
-        value_has part.value parts all.0 (λ c at is. none c at (inl is)) (λ c at is. none c at (inr is)) (first_has parts all.1)
+    first_has (part ∷ parts) all none = value_has part.at part.value parts all.0 none (first_has parts all.1)

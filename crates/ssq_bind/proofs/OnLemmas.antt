@@ -1,5 +1,5 @@
 -- The parts of ON: those that are checked are those that are bound, and as many are key equalities.
-use Rattle.std.proofs.Common.{◌≡◌, ◌∙◌, refl, sym, subst, arith, ℕ, ◌≤◌, Bool, true, false, ◌&&◌, List, [], ◌∷◌, ◌++◌, map, length, Option, Some, None}
+use Rattle.std.proofs.Common.{◌≡◌, ◌∙◌, refl, sym, subst, arith, ℕ, ◌≤◌, Bool, true, false, ◌&&◌, List, [], ◌∷◌, ◌++◌, map, filter, length, Option, Some, None}
 use Rattle.std.specs.Prelude.{if◌then◌else◌}
 use Rattle.std.specs.List.{flat_map}
 use Rattle.std.proofs.lemmas.List.{length-append, map-append}
@@ -49,10 +49,13 @@ pair_is_one true a b = by (are_across a b)
     by true = one_at_most (pair_by a b)
     by false = omega arith
 
-one_more : (is_one : Bool) (xs ys : List KeyPair) (at : ℕ) (places : List ℕ) → length xs ≤ (if is_one then 1 else 0) → length ys ≤ length places
-    → length (xs ++ ys) ≤ length (if is_one then at ∷ places else places)
-one_more true xs ys at places one more = omega (arith, one, more, length-append xs ys)
-one_more false xs ys at places one more = omega (arith, one, more, length-append xs ys)
+abbrev place_in : Conjunct → ℕ
+place_in part = part.at
+
+one_more : (is_one : Bool) (xs ys : List KeyPair) (part : Conjunct) (parts : List Conjunct) → length xs ≤ (if is_one then 1 else 0) → length ys ≤ length (map place_in parts)
+    → length (xs ++ ys) ≤ length (map place_in (if is_one then part ∷ parts else parts))
+one_more true xs ys part parts one more = omega (arith, one, more, length-append xs ys)
+one_more false xs ys part parts one more = omega (arith, one, more, length-append xs ys)
 
 module _ (query : Query) where
   -- names of columns mean the same where groups have names too
@@ -76,7 +79,7 @@ module _ (query : Query) where
   unfolding context_of
   as_few_pairs [] = omega arith
   as_few_pairs (part ∷ parts) =
-      one_more (is_key_equality (row_scope query) part.value) (listed (key_pair (scope_of query) part.value)) (flat_map (keys_in (context_of query)) (map value_in parts)) part.at (key_places (row_scope query) parts)
+      one_more (is_key_equality (row_scope query) part.value) (listed (key_pair (scope_of query) part.value)) (flat_map (keys_in (context_of query)) (map value_in parts)) part (filter (λ (own : Conjunct). is_key_equality (row_scope query) own.value) parts)
       (pair_one part.value) (as_few_pairs parts)
 
   -- ON has no more key equalities than were counted

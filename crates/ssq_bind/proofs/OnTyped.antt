@@ -285,7 +285,7 @@ module _ (rows : Scope) where
       (some_listed (Pairs rows) (key_pair rows part.value) (part_pair part.value (ap is_there all.0))) (keys_typed parts all.1)
 
   module _ (left_times : IfSome rows.left HasTimes) (right_times : IfSome rows.right HasTimes) where
-    first_bounds : (parts : List Conjunct) → AllByRecursion (IsTruth rows) parts → AreNone (BoundFaults rows false parts)
+    first_bounds : (parts : List Conjunct) → AllByRecursion (IsTruth rows) parts → AreNone (BoundFaults rows parts)
         → IfSome (slice_get (flat_map bounds_at (map value_in parts)) 0) (BoundsTimes (source_kinds rows.left) (source_kinds rows.right))
     first_bounds =
         first_has rows rows (λ (e : Expr). kind rows within.Row e ≡ Some type.Bool) (BoundsTimes (source_kinds rows.left) (source_kinds rows.right))

@@ -161,7 +161,7 @@ module _ (rows : Scope) where
       (λ a b o left_at own right_at joins whole. let typed = both_typed a b o left_at own right_at joins whole.0 in ((typed.0, whole.1.0), (typed.1, whole.1.1)))
       at e (is, has)
 
-  first_lies : (context : Context) (parts : List Conjunct) → AllByRecursion (IsPart rows) parts → AreNone (BoundFaults rows false parts)
+  first_lies : (context : Context) (parts : List Conjunct) → AllByRecursion (IsPart rows) parts → AreNone (BoundFaults rows parts)
       → IfSome (slice_get (flat_map (bounds_in context) (map value_in parts)) 0) LiesAround
   first_lies context = first_has rows context.scope (IsTyped rows) LiesAround (λ e is. is.0) (λ a b c at is may. bound_lies context.scope rows a b c is.1.1 is.1.2 may)
 

@@ -53,25 +53,25 @@ module _ {A : Type 0} where
   pub take_one : (xs : List A) (i : ℕ) (x : A) → i < length xs → x ≡ get_or xs i x → take (i + 1) xs ≡ take i xs ++ x ∷ []
   take_one xs i x inside is = take_more xs i x inside ∙ (λ j. take i xs ++ sym is j ∷ [])
 
-  each_forth : (F : A → Faults) (xs : List A) (x : A) (c : Cause) (at : ℕ) → Either (Each F xs) (F x) c at → Each F (xs ++ x ∷ []) c at
-  each_forth F [] x c at (inl never) = absurd never
-  each_forth F [] x c at (inr p) = inl p
-  each_forth F (y ∷ ys) x c at (inl (inl p)) = inl p
-  each_forth F (y ∷ ys) x c at (inl (inr p)) = inr (each_forth F ys x c at (inl p))
-  each_forth F (y ∷ ys) x c at (inr p) = inr (each_forth F ys x c at (inr p))
+  pub each_forth : (F : A → Faults) (xs ys : List A) (c : Cause) (at : ℕ) → Either (Each F xs) (Each F ys) c at → Each F (xs ++ ys) c at
+  each_forth F [] ys c at (inl never) = absurd never
+  each_forth F [] ys c at (inr p) = p
+  each_forth F (x ∷ xs) ys c at (inl (inl p)) = inl p
+  each_forth F (x ∷ xs) ys c at (inl (inr p)) = inr (each_forth F xs ys c at (inl p))
+  each_forth F (x ∷ xs) ys c at (inr p) = inr (each_forth F xs ys c at (inr p))
 
-  each_back : (F : A → Faults) (xs : List A) (x : A) (c : Cause) (at : ℕ) → Each F (xs ++ x ∷ []) c at → Either (Each F xs) (F x) c at
-  each_back F [] x c at (inl p) = inr p
-  each_back F [] x c at (inr never) = absurd never
-  each_back F (y ∷ ys) x c at (inl p) = inl (inl p)
-  each_back F (y ∷ ys) x c at (inr p) = to_left (F y) (Each F ys) (F x) c at (inr (each_back F ys x c at p))
+  pub each_back : (F : A → Faults) (xs ys : List A) (c : Cause) (at : ℕ) → Each F (xs ++ ys) c at → Either (Each F xs) (Each F ys) c at
+  each_back F [] ys c at p = inr p
+  each_back F (x ∷ xs) ys c at (inl p) = inl (inl p)
+  each_back F (x ∷ xs) ys c at (inr p) = to_left (F x) (Each F xs) (Each F ys) c at (inr (each_back F xs ys c at p))
 
   -- one element more
   pub each_more : (F : A → Faults) (xs ys : List A) (x : A) (first own next : Option BindFault)
       → ys ≡ xs ++ x ∷ [] → next ≡ sooner first own → FirstOf (Each F xs) first → FirstOf (F x) own → FirstOf (Each F ys) next
   each_more F xs ys x first own next ys_is next_is before one =
       subst (λ (got : List A × Option BindFault). FirstOf (Each F got.0) got.1) (λ i. (sym ys_is i, sym next_is i))
-      (first_same (Either (Each F xs) (F x)) (Each F (xs ++ x ∷ [])) (sooner first own) (each_forth F xs x) (each_back F xs x) (first_sooner (Each F xs) (F x) first own before one))
+      (first_same (Either (Each F xs) (Each F (x ∷ []))) (Each F (xs ++ x ∷ [])) (sooner first own) (each_forth F xs (x ∷ [])) (each_back F xs (x ∷ []))
+      (first_sooner (Each F xs) (Each F (x ∷ [])) first own before (none_behind (F x) own one)))
 
   module _ (name : A → List ℕ) (place : A → ℕ) where
     doubled_forth : (seen : List (List ℕ)) (xs : List A) (x : A) (c : Cause) (at : ℕ)

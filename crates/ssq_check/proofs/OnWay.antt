@@ -1,6 +1,9 @@
 -- On the way through ON its conjuncts are met from the left.
-use Rattle.std.proofs.Common.{◌≡◌, ◌∙◌, inl, inr, ap, refl, sym, subst, ℕ, Bool, true, false, ◌||◌, if◌then◌else◌, List, [], ◌∷◌, ◌++◌, Option, Some, None}
+use Rattle.std.proofs.Common.{◌≡◌, ◌∙◌, inl, inr, ap, refl, sym, subst, ℕ, Bool, true, false, ◌||◌, if◌then◌else◌, List, [], ◌∷◌, ◌++◌, map, filter, Option, Some, None}
 use Rattle.std.specs.List.{list_any}
+use Rattle.std.proofs.lemmas.List.{map-append}
+use Rattle.std.proofs.lemmas.List.Elements.{filter-append}
+use Rattle.std.proofs.lemmas.List.Folds.{list_any-append}
 use mathlib.Core.Bool.{or-false, or-true, or_assoc}
 use Rattle.ssq_ast.specs.declared.expr.BinaryOp.{BinaryOp}
 use Rattle.ssq_ast.specs.declared.expr.Expr.{Expr}
@@ -16,13 +19,13 @@ use Rattle.ssq_check.specs.declared.scope.Scope.{Scope}
 use Rattle.ssq_check.specs.Counted.{tally_of, Counts}
 use Rattle.ssq_check.specs.Fault.{rank, Faults, IsNoLater, FirstOf, sooner}
 use Rattle.ssq_check.specs.Broken.{Nothing, Either, Rule}
-use Rattle.ssq_check.specs.Lists.{Standing, Beyond}
+use Rattle.ssq_check.specs.Lists.{Each, Standing, Beyond}
 use Rattle.ssq_check.specs.Names.{is_there}
-use Rattle.ssq_check.specs.Joined.{Conjunct, is_and, conjuncts, is_pair, is_key_equality, key_places, between_at, is_between, is_misplaced, BoundRule, seen_by, BoundFaults, ConjunctFaults}
-use Rattle.ssq_check.specs.Walked.{Met, Meets}
+use Rattle.ssq_check.specs.Joined.{Conjunct, is_and, conjuncts, is_pair, is_key_equality, key_places, between_at, is_between, is_misplaced, BoundRule, betweens, StrayFaults, BoundFaults, ConjunctFaults}
+use Rattle.ssq_check.specs.Walked.{Met, MoreStrays, BoundFaultsAfter, Meets}
 use Rattle.ssq_check.proofs.First.{first_sooner, later_still}
 use Rattle.ssq_check.proofs.Nodes.{first_told}
-use Rattle.ssq_check.proofs.Lists.{first_same, none_behind, to_right, to_left}
+use Rattle.ssq_check.proofs.Lists.{first_same, each_forth, each_back, none_behind, to_right, to_left}
 use Rattle.ssq_check.proofs.Tallied.{counts_none, counts_both}
 
 abbrev have_between : List Conjunct → Bool
@@ -60,118 +63,139 @@ through P Q (Some f) (Some g) first h = record { is = own h.is; least = least }
 regroup : (P Q R : Faults) (o : Option BindFault) → FirstOf (Either (Either P Q) R) o → FirstOf (Either P (Either Q R)) o
 regroup P Q R o h = first_same (Either (Either P Q) R) (Either P (Either Q R)) o (to_right P Q R) (to_left P Q R) h
 
-regroup_left : (P Q R S : Faults) (o : Option BindFault) → FirstOf (Either (Either P (Either Q R)) S) o → FirstOf (Either (Either (Either P Q) R) S) o
-regroup_left P Q R S o h = first_same (Either (Either P (Either Q R)) S) (Either (Either (Either P Q) R) S) o forth back h
-  where
-    forth : (c : Cause) (at : ℕ) → Either (Either P (Either Q R)) S c at → Either (Either (Either P Q) R) S c at
-    forth c at (inl x) = inl (to_left P Q R c at x)
-    forth c at (inr s) = inr s
-
-    back : (c : Cause) (at : ℕ) → Either (Either (Either P Q) R) S c at → Either (Either P (Either Q R)) S c at
-    back c at (inl x) = inl (to_right P Q R c at x)
-    back c at (inr s) = inr s
-
 module _ (scope : Scope) where
-  seen_is : (own : Option ℕ) (seen rest : Bool) → (seen_by own seen || rest) ≡ (seen || (is_there own || rest))
-  seen_is None seen rest = refl
-  seen_is (Some at) true rest = refl
-  seen_is (Some at) false rest = refl
+  -- whether there is a BETWEEN among some
+  abbrev has_one : List Conjunct → Bool
+  has_one [] = false
+  has_one (first ∷ others) = true
+
+  has_one_is : (parts : List Conjunct) → has_one (betweens parts) ≡ have_between parts
+  has_one_is [] = refl
+  has_one_is (part ∷ parts) = by (is_between part.value) (has_one_is parts)
+    where
+      by : (is : Bool) → has_one (betweens parts) ≡ have_between parts → has_one (if is then part ∷ betweens parts else betweens parts) ≡ (is || have_between parts)
+      by true rest = refl
+      by false rest = rest
+
+  strays_forth : (seen : Bool) (some more : List Conjunct) (c : Cause) (at : ℕ) → Either (MoreStrays scope seen some) (MoreStrays scope (seen || has_one some) more) c at → MoreStrays scope seen (some ++ more) c at
+  strays_forth true some more c at h = each_forth (StrayFaults scope true) some more c at h
+  strays_forth false [] more c at (inl never) = absurd never
+  strays_forth false [] more c at (inr q) = q
+  strays_forth false (first ∷ others) more c at (inl (inl p)) = inl p
+  strays_forth false (first ∷ others) more c at (inl (inr p)) = inr (each_forth (StrayFaults scope true) others more c at (inl p))
+  strays_forth false (first ∷ others) more c at (inr q) = inr (each_forth (StrayFaults scope true) others more c at (inr q))
+
+  strays_back : (seen : Bool) (some more : List Conjunct) (c : Cause) (at : ℕ) → MoreStrays scope seen (some ++ more) c at → Either (MoreStrays scope seen some) (MoreStrays scope (seen || has_one some) more) c at
+  strays_back true some more c at h = each_back (StrayFaults scope true) some more c at h
+  strays_back false [] more c at q = inr q
+  strays_back false (first ∷ others) more c at (inl p) = inl (inl p)
+  strays_back false (first ∷ others) more c at (inr p) =
+      to_left (StrayFaults scope false first) (Each (StrayFaults scope true) others) (Each (StrayFaults scope true) more) c at (inr (each_back (StrayFaults scope true) others more c at p))
 
   -- the faults of some parts, and then of others
-  bounds_both : (xs ys : List Conjunct) (seen : Bool) (P : Faults) (o : Option BindFault) → FirstOf (Either (Either P (BoundFaults scope seen xs)) (BoundFaults scope (seen || have_between xs) ys)) o
-      → FirstOf (Either P (BoundFaults scope seen (xs ++ ys))) o
-  unfolding BoundFaults
-  bounds_both [] ys seen P o h =
-      first_same (Either (Either P Nothing) (BoundFaults scope (seen || false) ys)) (Either P (BoundFaults scope seen ys)) o forth back h
+  bounds_both : (xs ys : List Conjunct) (seen : Bool) (P : Faults) (o : Option BindFault) → FirstOf (Either (Either P (BoundFaultsAfter scope seen xs)) (BoundFaultsAfter scope (seen || have_between xs) ys)) o
+      → FirstOf (Either P (BoundFaultsAfter scope seen (xs ++ ys))) o
+  bounds_both xs ys seen P o h =
+      let Some_of : Faults = MoreStrays scope seen (betweens xs) in
+      let More : Bool → Faults = λ has. MoreStrays scope (seen || has) (betweens ys) in
+      let Both : Faults = MoreStrays scope seen (betweens xs ++ betweens ys) in
+      subst (λ (zs : List Conjunct). FirstOf (Either P (MoreStrays scope seen zs)) o) (sym (filter-append (λ (part : Conjunct). is_between part.value) xs ys))
+      (first_same (Either P (Either Some_of (More (has_one (betweens xs))))) (Either P Both) o forth back
+      (regroup P Some_of (More (has_one (betweens xs))) o (subst (λ has. FirstOf (Either (Either P Some_of) (More has)) o) (sym (has_one_is xs)) h)))
     where
-      same : (seen || false) ≡ seen
-      same = or-false seen
+      forth : (c : Cause) (at : ℕ) → Either P (Either (MoreStrays scope seen (betweens xs)) (MoreStrays scope (seen || has_one (betweens xs)) (betweens ys))) c at
+          → Either P (MoreStrays scope seen (betweens xs ++ betweens ys)) c at
+      forth c at (inl p) = inl p
+      forth c at (inr q) = inr (strays_forth seen (betweens xs) (betweens ys) c at q)
 
-      forth : (c : Cause) (at : ℕ) → Either (Either P Nothing) (BoundFaults scope (seen || false) ys) c at → Either P (BoundFaults scope seen ys) c at
-      forth c at (inl (inl p)) = inl p
-      forth c at (inl (inr never)) = absurd never
-      forth c at (inr q) = inr (subst (λ s. BoundFaults scope s ys c at) same q)
+      back : (c : Cause) (at : ℕ) → Either P (MoreStrays scope seen (betweens xs ++ betweens ys)) c at
+          → Either P (Either (MoreStrays scope seen (betweens xs)) (MoreStrays scope (seen || has_one (betweens xs)) (betweens ys))) c at
+      back c at (inl p) = inl p
+      back c at (inr q) = inr (strays_back seen (betweens xs) (betweens ys) c at q)
 
-      back : (c : Cause) (at : ℕ) → Either P (BoundFaults scope seen ys) c at → Either (Either P Nothing) (BoundFaults scope (seen || false) ys) c at
-      back c at (inl p) = inl (inl p)
-      back c at (inr q) = inr (subst (λ s. BoundFaults scope s ys c at) (sym same) q)
-  bounds_both (x ∷ xs) ys seen P o h =
-      let own : Option ℕ = between_at x.value in
-      let Own : Faults = BoundRule own (is_misplaced scope seen x.value) in
-      let Xs : Faults = BoundFaults scope (seen_by own seen) xs in
-      let Ys : Bool → Faults = λ s. BoundFaults scope s ys in
-      let same : (seen_by own seen || have_between xs) ≡ (seen || (is_there own || have_between xs)) = seen_is own seen (have_between xs) in
-      let moved : FirstOf (Either (Either P (Either Own Xs)) (Ys (seen_by own seen || have_between xs))) o = subst (λ s. FirstOf (Either (Either P (Either Own Xs)) (Ys s)) o) (sym same) h in
-      let grouped : FirstOf (Either (Either (Either P Own) Xs) (Ys (seen_by own seen || have_between xs))) o = regroup_left P Own Xs (Ys (seen_by own seen || have_between xs)) o moved in
-      regroup P Own (BoundFaults scope (seen_by own seen) (xs ++ ys)) o (bounds_both xs ys (seen_by own seen) (Either P Own) o grouped)
+  abbrev key_parts : List Conjunct → List Conjunct
+  key_parts parts = filter (λ part. is_key_equality scope part.value) parts
 
   places_both : (xs ys : List Conjunct) → key_places scope (xs ++ ys) ≡ key_places scope xs ++ key_places scope ys
-  places_both [] ys = refl
-  places_both (x ∷ xs) ys = put (is_key_equality scope x.value) (places_both xs ys)
-    where
-      put : (d : Bool) → key_places scope (xs ++ ys) ≡ key_places scope xs ++ key_places scope ys
-          → (if d then x.at ∷ key_places scope (xs ++ ys) else key_places scope (xs ++ ys)) ≡ (if d then x.at ∷ key_places scope xs else key_places scope xs) ++ key_places scope ys
-      put true rest = ap (λ places. x.at ∷ places) rest
-      put false rest = rest
-
-  any_both : (xs ys : List Conjunct) → have_between (xs ++ ys) ≡ (have_between xs || have_between ys)
-  any_both [] ys = refl
-  any_both (x ∷ xs) ys = ap (λ d. is_between x.value || d) (any_both xs ys) ∙ sym (or_assoc (is_between x.value) (have_between xs) (have_between ys))
+  places_both xs ys =
+      ap (map (λ (part : Conjunct). part.at)) (filter-append (λ (part : Conjunct). is_key_equality scope part.value) xs ys)
+      ∙ map-append (λ (part : Conjunct). part.at) (key_parts xs) (key_parts ys)
 
   pub meets_both : (xs ys : List Conjunct) (old mid new : Walk) → Meets scope old xs mid → Meets scope mid ys new → Meets scope old (xs ++ ys) new
   meets_both xs ys old mid new first second = record { seen = seen; keys = keys; bound = bound }
     where
       seen : new.seen ≡ (old.seen || have_between (xs ++ ys))
-      seen = second.seen ∙ ap (λ s. s || have_between ys) first.seen ∙ or_assoc old.seen (have_between xs) (have_between ys) ∙ ap (λ d. old.seen || d) (sym (any_both xs ys))
+      seen = second.seen ∙ ap (λ s. s || have_between ys) first.seen ∙ or_assoc old.seen (have_between xs) (have_between ys) ∙ ap (λ d. old.seen || d) (sym (list_any-append (λ (part : Conjunct). is_between part.value) xs ys))
 
       keys : Counts old.keys (key_places scope (xs ++ ys)) new.keys
       keys = subst (λ places. Counts old.keys places new.keys) (sym (places_both xs ys)) (counts_both (key_places scope xs) (key_places scope ys) old.keys mid.keys new.keys first.keys second.keys)
 
-      bound : FirstOf (Either (Met old.bound) (BoundFaults scope old.seen (xs ++ ys))) new.bound
+      bound : FirstOf (Either (Met old.bound) (BoundFaultsAfter scope old.seen (xs ++ ys))) new.bound
       bound = bounds_both xs ys old.seen (Met old.bound) new.bound
-          (subst (λ s. FirstOf (Either (Either (Met old.bound) (BoundFaults scope old.seen xs)) (BoundFaults scope s ys)) new.bound) first.seen
-          (through (Either (Met old.bound) (BoundFaults scope old.seen xs)) (BoundFaults scope mid.seen ys) mid.bound new.bound first.bound second.bound))
+          (subst (λ s. FirstOf (Either (Either (Met old.bound) (BoundFaultsAfter scope old.seen xs)) (BoundFaultsAfter scope s ys)) new.bound) first.seen
+          (through (Either (Met old.bound) (BoundFaultsAfter scope old.seen xs)) (BoundFaultsAfter scope mid.seen ys) mid.bound new.bound first.bound second.bound))
 
   abbrev part_at : ℕ → Expr → Conjunct
   part_at at value = record { at = at; value = value }
 
+  place_of_one : (part : Conjunct) (is_key : Bool) → map (λ (own : Conjunct). own.at) (if is_key then part ∷ [] else []) ≡ (if is_key then part.at ∷ [] else [])
+  place_of_one part true = refl
+  place_of_one part false = refl
+
+  none_stray : (seen : Bool) (c : Cause) (at : ℕ) → MoreStrays scope seen [] c at → ⊥
+  none_stray true c at never = never
+  none_stray false c at never = never
+
   -- one part, which is no BETWEEN
   pub meets_key : (old new : Walk) (at : ℕ) (value : Expr) (d : Bool) → between_at value ≡ None → is_key_equality scope value ≡ d
       → new.seen ≡ old.seen → new.bound ≡ old.bound → Counts old.keys (if d then at ∷ [] else []) new.keys → Meets scope old (part_at at value ∷ []) new
-  unfolding BoundFaults
   meets_key old new at value d own_is key_is seen_is bound_is counted = record { seen = seen; keys = keys; bound = bound }
     where
       seen : new.seen ≡ (old.seen || (is_there (between_at value) || false))
       seen = seen_is ∙ rw own_is (sym (or-false old.seen))
 
-      keys : Counts old.keys (if is_key_equality scope value then at ∷ [] else []) new.keys
-      keys = subst (λ b. Counts old.keys (if b then at ∷ [] else []) new.keys) (sym key_is) counted
+      keys : Counts old.keys (key_places scope (part_at at value ∷ [])) new.keys
+      keys =
+          subst (λ (places : List ℕ). Counts old.keys places new.keys) (sym (place_of_one (part_at at value) (is_key_equality scope value)))
+          (subst (λ b. Counts old.keys (if b then at ∷ [] else []) new.keys) (sym key_is) counted)
 
-      plain : FirstOf (Either (Met old.bound) (Either (BoundRule None (is_misplaced scope old.seen value)) Nothing)) old.bound
-      plain = regroup (Met old.bound) Nothing Nothing old.bound (none_behind (Either (Met old.bound) Nothing) old.bound (none_behind (Met old.bound) old.bound (met_itself old.bound)))
+      plain : FirstOf (Either (Met old.bound) (MoreStrays scope old.seen [])) old.bound
+      plain = first_same (Met old.bound) (Either (Met old.bound) (MoreStrays scope old.seen [])) old.bound (λ c at p. inl p) back (met_itself old.bound)
+        where
+          back : (c : Cause) (at : ℕ) → Either (Met old.bound) (MoreStrays scope old.seen []) c at → Met old.bound c at
+          back c at (inl p) = p
+          back c at (inr q) = absurd (none_stray old.seen c at q)
 
-      bound : FirstOf (Either (Met old.bound) (Either (BoundRule (between_at value) (is_misplaced scope old.seen value)) Nothing)) new.bound
+      bound : FirstOf (Either (Met old.bound) (MoreStrays scope old.seen (if is_there (between_at value) then part_at at value ∷ [] else []))) new.bound
       bound =
-          subst (λ (o : Option BindFault). FirstOf (Either (Met old.bound) (Either (BoundRule (between_at value) (is_misplaced scope old.seen value)) Nothing)) o) (sym bound_is)
-          (subst (λ (own : Option ℕ). FirstOf (Either (Met old.bound) (Either (BoundRule own (is_misplaced scope old.seen value)) Nothing)) old.bound) (sym own_is) plain)
+          subst (λ (o : Option BindFault). FirstOf (Either (Met old.bound) (MoreStrays scope old.seen (if is_there (between_at value) then part_at at value ∷ [] else []))) o) (sym bound_is)
+          (subst (λ (own : Option ℕ). FirstOf (Either (Met old.bound) (MoreStrays scope old.seen (if is_there own then part_at at value ∷ [] else []))) old.bound) (sym own_is) plain)
+
+  one_stray : (seen : Bool) (part : Conjunct) (P : Faults) (o : Option BindFault) → FirstOf (Either P (StrayFaults scope seen part)) o → FirstOf (Either P (MoreStrays scope seen (part ∷ []))) o
+  one_stray true part P o h = regroup P (StrayFaults scope true part) Nothing o (none_behind (Either P (StrayFaults scope true part)) o h)
+  one_stray false part P o h = regroup P (StrayFaults scope false part) Nothing o (none_behind (Either P (StrayFaults scope false part)) o h)
 
   -- one part, a BETWEEN
   pub meets_between : (old new : Walk) (at b : ℕ) (value : Expr) (bad : Bool) → between_at value ≡ Some b → is_key_equality scope value ≡ false → bad ≡ is_misplaced scope old.seen value
       → new.seen ≡ true → new.keys ≡ old.keys → FirstOf (Either (Met old.bound) (Rule cause.BadBound b (bad ≡ true))) new.bound → Meets scope old (part_at at value ∷ []) new
-  unfolding BoundFaults
   meets_between old new at b value bad own_is key_is bad_is seen_is keys_is first = record { seen = seen; keys = keys; bound = bound }
     where
       seen : new.seen ≡ (old.seen || (is_there (between_at value) || false))
       seen = seen_is ∙ rw own_is (sym (or-true old.seen))
 
-      keys : Counts old.keys (if is_key_equality scope value then at ∷ [] else []) new.keys
+      keys : Counts old.keys (key_places scope (part_at at value ∷ [])) new.keys
       keys = rw key_is (λ most before is. keys_is ∙ counts_none old.keys most before is)
 
-      bound : FirstOf (Either (Met old.bound) (Either (BoundRule (between_at value) (is_misplaced scope old.seen value)) Nothing)) new.bound
+      misplaced : FirstOf (Either (Met old.bound) (BoundRule (Some b) (is_misplaced scope old.seen value))) new.bound
+      misplaced = subst (λ (m : Bool). FirstOf (Either (Met old.bound) (Rule cause.BadBound b (m ≡ true))) new.bound) bad_is first
+
+      stray : FirstOf (Either (Met old.bound) (StrayFaults scope old.seen (part_at at value))) new.bound
+      stray = subst (λ (own : Option ℕ). FirstOf (Either (Met old.bound) (BoundRule own (is_misplaced scope old.seen value))) new.bound) (sym own_is) misplaced
+
+      bound : FirstOf (Either (Met old.bound) (MoreStrays scope old.seen (if is_there (between_at value) then part_at at value ∷ [] else []))) new.bound
       bound =
-          subst (λ (own : Option ℕ). FirstOf (Either (Met old.bound) (Either (BoundRule own (is_misplaced scope old.seen value)) Nothing)) new.bound) (sym own_is)
-          (subst (λ (m : Bool). FirstOf (Either (Met old.bound) (Either (Rule cause.BadBound b (m ≡ true)) Nothing)) new.bound) bad_is
-          (regroup (Met old.bound) (Rule cause.BadBound b (bad ≡ true)) Nothing new.bound (none_behind (Either (Met old.bound) (Rule cause.BadBound b (bad ≡ true))) new.bound first)))
+          subst (λ (own : Option ℕ). FirstOf (Either (Met old.bound) (MoreStrays scope old.seen (if is_there own then part_at at value ∷ [] else []))) new.bound) (sym own_is)
+          (one_stray old.seen (part_at at value) (Met old.bound) new.bound stray)
 
   pub meets_and : (old new : Walk) (at left_at : ℕ) (a : Expr) (o : BinaryOp) (own right_at : ℕ) (b : Expr) → is_and o ≡ true
       → Meets scope old (conjuncts left_at a ++ conjuncts right_at b) new → Meets scope old (conjuncts at (expr.Binary' left_at tt (only a) o own right_at tt (only b))) new
@@ -187,15 +211,16 @@ module _ (scope : Scope) where
 
   pub conjuncts_first : (parts : List Conjunct) (first walk : Walk) (past o : Option BindFault) → first ≡ record { seen = false; bound = None; keys = tally_of 64 [] } → Meets scope first parts walk
       → FirstOf (Standing cause.TooMany walk.keys.past) past → o ≡ sooner past walk.bound → FirstOf (ConjunctFaults scope parts) o
+  unfolding BoundFaults
   conjuncts_first parts first walk past o first_is met over is =
       let keys_are : walk.keys ≡ tally_of 64 (key_places scope parts) = met.keys 64 [] (λ i. (first_is i).keys) in
-      let bound : FirstOf (Either (Met None) (BoundFaults scope false parts)) walk.bound = subst (λ (w : Walk). FirstOf (Either (Met w.bound) (BoundFaults scope w.seen parts)) walk.bound) first_is met.bound in
-      let own : FirstOf (BoundFaults scope false parts) walk.bound = first_same (Either (Met None) (BoundFaults scope false parts)) (BoundFaults scope false parts) walk.bound forth (λ c at q. inr q) bound in
+      let bound : FirstOf (Either (Met None) (BoundFaults scope parts)) walk.bound = subst (λ (w : Walk). FirstOf (Either (Met w.bound) (BoundFaultsAfter scope w.seen parts)) walk.bound) first_is met.bound in
+      let own : FirstOf (BoundFaults scope parts) walk.bound = first_same (Either (Met None) (BoundFaults scope parts)) (BoundFaults scope parts) walk.bound forth (λ c at q. inr q) bound in
       subst (λ (o : Option BindFault). FirstOf (ConjunctFaults scope parts) o) (sym is)
-      (first_sooner (Beyond (key_places scope parts)) (BoundFaults scope false parts) past walk.bound
+      (first_sooner (Beyond (key_places scope parts)) (BoundFaults scope parts) past walk.bound
       (subst (λ (at : Option ℕ). FirstOf (Standing cause.TooMany at) past) (λ i. (keys_are i).past) over) own)
     where
-      forth : (c : Cause) (at : ℕ) → Either (Met None) (BoundFaults scope false parts) c at → BoundFaults scope false parts c at
+      forth : (c : Cause) (at : ℕ) → Either (Met None) (BoundFaults scope parts) c at → BoundFaults scope parts c at
       forth c at (inl never) = absurd never
       forth c at (inr q) = q
 

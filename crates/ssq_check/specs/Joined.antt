@@ -1,5 +1,5 @@
 -- ON: what it joins by AND, which parts of it are key equalities, and which is the bound on times.
-use Rattle.std.specs.Prelude.{◌≡◌, ℕ, Bool, true, false, not, ◌&&◌, ◌||◌, nat_eq, if◌then◌else◌, List, [], ◌∷◌, ◌++◌, Option, Some, None, Result, Ok, Err}
+use Rattle.std.specs.Prelude.{◌≡◌, ℕ, Bool, true, false, not, ◌&&◌, ◌||◌, nat_eq, if◌then◌else◌, List, [], ◌∷◌, ◌++◌, map, filter, Option, Some, None, Result, Ok, Err}
 use Rattle.ssq_value.specs.declared.column.ColType.TheVariants as type
 use Rattle.ssq_value.specs.declared.column.Column.{Column}
 use Rattle.ssq_shape.specs.Kinds.{is_kind}
@@ -24,7 +24,7 @@ use Rattle.ssq_check.specs.Fault.{Faults}
 use Rattle.ssq_check.specs.Scope.{in_columns, bare_spot, named_spot, is_same_side}
 use Rattle.ssq_check.specs.Broken.{Nothing, Either, Rule}
 use Rattle.ssq_check.specs.Rules.{is_interval, kind}
-use Rattle.ssq_check.specs.Lists.{Beyond}
+use Rattle.ssq_check.specs.Lists.{Beyond, Each}
 use Rattle.ssq_check.specs.Names.{is_there}
 
 pub record Conjunct : Type 0 where
@@ -92,9 +92,7 @@ is_key_equality scope _ = false
 
 -- the places of key equalities
 abbrev pub key_places : Scope → List Conjunct → List ℕ
-key_places scope [] = []
-key_places scope (conjunct ∷ more) =
-    if is_key_equality scope conjunct.value then conjunct.at ∷ key_places scope more else key_places scope more
+key_places scope parts = map (λ part. part.at) (filter (λ part. is_key_equality scope part.value) parts)
 
 -- ---- the bound
 
@@ -160,30 +158,35 @@ between_at _ = None
 abbrev pub is_between : Expr → Bool
 is_between e = is_there (between_at e)
 
--- a BETWEEN that isn't the first one, or hasn't the bound's form; and there is no fault in it
+-- a BETWEEN that follows another one, or hasn't the bound's form; and there is no fault in it
 abbrev pub is_misplaced_by : Scope → Bool → Expr → Expr → Expr → Bool
-is_misplaced_by scope seen a b c = (seen || not (is_bound scope a b c)) && are_typed scope a b c
+is_misplaced_by scope follows a b c = (follows || not (is_bound scope a b c)) && are_typed scope a b c
 
 unfoldable pub is_misplaced : Scope → Bool → Expr → Bool
-is_misplaced scope seen (expr.Between' p (only a) at q (only b) r (only c)) = is_misplaced_by scope seen a b c
-is_misplaced scope seen _ = false
+is_misplaced scope follows (expr.Between' p (only a) at q (only b) r (only c)) = is_misplaced_by scope follows a b c
+is_misplaced scope follows _ = false
 
 abbrev pub BoundRule : Option ℕ → Bool → Faults
 BoundRule None misplaced = Nothing
 BoundRule (Some at) misplaced = Rule cause.BadBound at (misplaced ≡ true)
 
--- whether a BETWEEN was met, once this is met
-abbrev pub seen_by : Option ℕ → Bool → Bool
-seen_by None seen = seen
-seen_by (Some at) seen = true
+-- the BETWEENs among some parts, in order
+abbrev pub betweens : List Conjunct → List Conjunct
+betweens parts = filter (λ part. is_between part.value) parts
+
+-- a BETWEEN, which follows another or does not, where it may not stand
+abbrev pub StrayFaults : Scope → Bool → Conjunct → Faults
+StrayFaults scope follows part = BoundRule (between_at part.value) (is_misplaced scope follows part.value)
+
+-- of some BETWEENs, those that may not stand where they are: the first follows none, and each other one does
+abbrev pub StraysAmong : Scope → List Conjunct → Faults
+StraysAmong scope [] = Nothing
+StraysAmong scope (first ∷ others) = Either (StrayFaults scope false first) (Each (StrayFaults scope true) others)
 
 -- a BETWEEN among the conjuncts of ON that may not stand there
-unfoldable pub BoundFaults : Scope → Bool → List Conjunct → Faults
-BoundFaults scope seen [] = Nothing
-BoundFaults scope seen (conjunct ∷ more) =
-    Either (BoundRule (between_at conjunct.value) (is_misplaced scope seen conjunct.value))
-    (BoundFaults scope (seen_by (between_at conjunct.value) seen) more)
+unfoldable pub BoundFaults : Scope → List Conjunct → Faults
+BoundFaults scope parts = StraysAmong scope (betweens parts)
 
 -- key equalities beyond the 64th, and BETWEENs that may not stand where they are
 abbrev pub ConjunctFaults : Scope → List Conjunct → Faults
-ConjunctFaults scope parts = Either (Beyond (key_places scope parts)) (BoundFaults scope false parts)
+ConjunctFaults scope parts = Either (Beyond (key_places scope parts)) (BoundFaults scope parts)

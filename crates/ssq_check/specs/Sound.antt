@@ -58,7 +58,7 @@ pub record IsSoundJoin (scope : Scope) (from : List ℕ) (join : Join) : Type 0 
   pub another : bytes_eq join.stream.text from ≡ false
   pub condition : IsCondition scope within.Row join.on
   pub few_keys : length (key_places scope (conjuncts join.on.at join.on.value)) ≤ 64
-  pub bound : AreNone (BoundFaults scope false (conjuncts join.on.at join.on.value))
+  pub bound : AreNone (BoundFaults scope (conjuncts join.on.at join.on.value))
 
 -- the name is that of one column of rows
 abbrev pub IsKnown : Scope → Ident → Type 0
