@@ -1,10 +1,13 @@
 -- How keywords are spelt.
-use Rattle.std.proofs.Common.{◌≡◌, true, length, get_or, refl, Some}
+use Rattle.std.proofs.Common.{◌≡◌, ◌∙◌, ap, ℕ, List, true, find, length, get_or, refl, Some}
+use Rattle.std.specs.Cmp.Lexicographic.{bytes_decides}
 use Rattle.std.specs.List.{prefix_len}
+use Rattle.std.specs.Str.{bytes_eq, str_eq_ignore_ascii_case, str_to_ascii_lowercase}
 use Rattle.ssq_lex.specs.declared.keyword.Keyword.{Keyword}
 use Rattle.ssq_lex.specs.declared.keyword.Keyword.TheVariants as key
+use Rattle.ssq_lex.specs.declared.keyword.TheConstants.{KEYWORDS}
 use Rattle.ssq_lex.specs.Cut.{begins_name, is_in_name}
-use Rattle.ssq_lex.specs.Spelling.{keyword_spelling, keyword_of}
+use Rattle.ssq_lex.specs.Spelling.{keyword_spelling, keyword_of, EachIsRead}
 
 -- a keyword's spelling is a word, and is read as that keyword
 pub record IsSpelt (k : Keyword) : Type 0 where
@@ -61,3 +64,13 @@ spelt key.Count = record { read = refl; begins = refl; goes_on = refl }
 spelt key.Sum = record { read = refl; begins = refl; goes_on = refl }
 spelt key.Min = record { read = refl; begins = refl; goes_on = refl }
 spelt key.Max = record { read = refl; begins = refl; goes_on = refl }
+
+-- words that differ in the case of letters alone are one keyword, or none
+alike : (a b : List ℕ) → str_eq_ignore_ascii_case a b ≡ true → keyword_of a ≡ keyword_of b
+unfolding keyword_of
+alike a b same =
+    ap (λ (low : List ℕ). find (λ k. bytes_eq low (str_to_ascii_lowercase (keyword_spelling k))) KEYWORDS)
+    ((bytes_decides (str_to_ascii_lowercase a) (str_to_ascii_lowercase b)).0 same)
+
+pub each_is_read : EachIsRead
+each_is_read k word same = alike word (keyword_spelling k) same ∙ (spelt k).read

@@ -1,5 +1,5 @@
 -- How keywords and symbols are written.
-use Rattle.std.specs.Prelude.{◌≡◌, ℕ, List, Option, Some, None, codes, find, if◌then◌else◌, ◌&&◌, ◌==◌}
+use Rattle.std.specs.Prelude.{◌≡◌, ℕ, List, Option, Some, None, true, codes, find, if◌then◌else◌, ◌&&◌, ◌==◌}
 use Rattle.std.specs.Str.{str_eq_ignore_ascii_case}
 use Rattle.ssq_lex.specs.declared.keyword.Keyword.{Keyword}
 use Rattle.ssq_lex.specs.declared.keyword.Keyword.TheVariants as key
@@ -61,9 +61,9 @@ keyword_spelling key.Max = codes "MAX"
 unfoldable pub keyword_of : List ℕ → Option Keyword
 keyword_of word = find (λ k. str_eq_ignore_ascii_case word (keyword_spelling k)) KEYWORDS
 
--- no keyword hides another
+-- A word that is a keyword's spelling but for the case of its letters is read as that keyword: no keyword hides another.
 abbrev pub EachIsRead : Type 0
-EachIsRead = (k : Keyword) → keyword_of (keyword_spelling k) ≡ Some k
+EachIsRead = (k : Keyword) (word : List ℕ) → str_eq_ignore_ascii_case word (keyword_spelling k) ≡ true → keyword_of word ≡ Some k
 
 -- a symbol as it is printed; `!=` is another way to write `<>`
 unfoldable pub symbol_spelling : Symbol → List ℕ

@@ -176,7 +176,7 @@ pub fn keyword_of(word: &str) -> Option<Keyword>
         .find(|keyword| word.eq_ignore_ascii_case(keyword.text()))
 }
 
-/// Each keyword is read where its own spelling stands.
+/// Each keyword is read where its own spelling stands, whatever the case of its letters.
 pub fn keywords_are_read()
     ensures { EachIsRead }
 {}
