@@ -40,6 +40,7 @@ use Rattle.ssq_check.specs.Sound.{IsSoundJoin}
 use Rattle.ssq_ast.specs.declared.query.Join.{Join}
 use Rattle.ssq_ast.specs.declared.query.Query.{Query}
 use Rattle.std.proofs.lemmas.List.Elements.{All-from_recursion}
+use Rattle.std.proofs.lemmas.Bool.{and_parts}
 use Rattle.ssq_bind.specs.Bound.{context_of}
 use Rattle.ssq_bind.specs.Joins.{parts_of, pair_on, pair_by, pair_of, key_pair, spot_index, shifted_column, span_of, bound_by, time_bound, rest_by, rest_in, joining_of}
 use Rattle.ssq_bind.specs.Lists.{listed}
@@ -228,14 +229,9 @@ gives_some : (own told : ColType) (b : Bool) → gives own b ≡ Some told → b
 gives_some own told true is = refl
 gives_some own told false is = absurd cc
 
-two : (a b : Bool) → (a && b) ≡ true → (a ≡ true) × (b ≡ true)
-two true true is = (refl, refl)
-two true false is = absurd cc
-two false b is = absurd cc
-
 and_truths : (a b : Option ColType) → of_one (λ pair. operator_kind (operands_of op.And) pair.0 pair.1) (together a b) ≡ Some type.Bool → (a ≡ Some type.Bool) × (b ≡ Some type.Bool)
 and_truths (Some a) (Some b) is =
-    let both = two (is_kind type.Bool (Some a)) (is_kind type.Bool (Some b)) (gives_some type.Bool type.Bool (is_kind type.Bool (Some a) && is_kind type.Bool (Some b)) is) in
+    let both = and_parts (is_kind type.Bool (Some a)) (is_kind type.Bool (Some b)) (gives_some type.Bool type.Bool (is_kind type.Bool (Some a) && is_kind type.Bool (Some b)) is) in
     (ap Some (sym (same_kind type.Bool a both.0)), ap Some (sym (same_kind type.Bool b both.1)))
 and_truths (Some a) None is = absurd cc
 and_truths None b is = absurd cc

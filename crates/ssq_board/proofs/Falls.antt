@@ -1,5 +1,5 @@
 -- Each turn of a round leaves less to do.
-use Rattle.std.proofs.Common.{◌≡◌, ◌⊎◌, ◌+◌, ◌-◌, ◌*◌, ◌≤◌, ◌<◌, ◌&&◌, ◌||◌, not, nat_lt, ℕ, zero, suc, Bool, true, false, true≢false, List, [], ◌∷◌, Option, Some, None, if◌then◌else◌, sym, refl, ap, subst, inl, inr, arith}
+use Rattle.std.proofs.Common.{◌≡◌, ◌⊎◌, ◌+◌, ◌-◌, ◌*◌, ◌≤◌, ◌<◌, ◌&&◌, ◌||◌, not, nat_lt, ℕ, zero, suc, Bool, true, false, true≢false, List, [], ◌∷◌, Option, Some, None, if◌then◌else◌, sym, refl, ap, subst, inl, inr, arith, le-ltb, ltb-true}
 use Rattle.ssq_outside.specs.declared.gate.TaskId.{TaskId}
 use Rattle.ssq_core.specs.Course.{Ends}
 use Rattle.ssq_board.specs.declared.front.Cause.{Cause}
@@ -8,7 +8,6 @@ use Rattle.ssq_board.specs.declared.front.Entry.TheVariants as entry
 use Rattle.ssq_board.specs.Core.{Scope, Core, within, next_end, next_ends, is_behind, is_open, is_stopped, need, May, after, after_all}
 use Rattle.ssq_board.specs.Shown.{IsSound}
 use Rattle.ssq_board.specs.Rounds.{HasCap, Comes, brings_rows, works, Worked, Versioned, lines_left, one_if, weigh, epochs_left, weight, left}
-use Rattle.ssq_board.proofs.Lists.{nat_lt-not, nat_lt-less}
 use Rattle.ssq_board.proofs.Sounds.{step_sound}
 use Rattle.ssq_board.proofs.Placing.{at_here}
 use Rattle.ssq_board.proofs.Needs.{need_claim, need_report, need_version, need_falls, need_sync, need_plan}
@@ -28,7 +27,7 @@ within_less (Some most) e s cap less = by (nat_lt (e + most) s) refl
 
 end_falls : (cap : Option ℕ) (e s : ℕ) → HasCap cap → nat_lt e s ≡ true → (s - next_end cap e s) + 1 ≤ (s - e)
 end_falls cap e s pos less =
-    let below = nat_lt-less e s less in
+    let below = ltb-true e s less in
     let w = within_less cap e s pos below in
     let is : next_end cap e s ≡ within cap e s = ap (λ (b : Bool). if b then within cap e s else e) less in
     omega arith
@@ -211,7 +210,7 @@ commit_falls r c n e b d m (inl is) = subst (λ x. left r x < left r c) (sym is)
     let a = left_most r x in
     let k = left_is r c (unstopped c.front.stop m.0) in
     let q = need_falls r c (entry.Commit e b) d m refl in
-    let closed : is_open x ≡ false = nat_lt-not (c.front.committed + 1) c.front.planned d.near in
+    let closed : is_open x ≡ false = le-ltb (c.front.committed + 1) c.front.planned d.near in
     let stale : one_if (is_open x && not x.front.fresh) ≡ 0 = ap (λ (o : Bool). one_if (o && not x.front.fresh)) closed in
     let lines : one_if (is_open x && x.front.has_lines) ≡ 0 = ap (λ (o : Bool). one_if (o && x.front.has_lines)) closed in
     let opened : one_if (is_open c && c.front.has_lines) ≡ one_if c.front.has_lines = ap (λ (o : Bool). one_if (o && c.front.has_lines)) m.2 in

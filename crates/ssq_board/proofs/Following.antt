@@ -1,5 +1,5 @@
 -- Entries that came are legal events of the machine.
-use Rattle.std.proofs.Common.{◌≡◌, ◌⊎◌, ◌+◌, ◌-◌, arith, ◌&&◌, ◌++◌, ℕ, Bool, true, false, true≢false, List, [], ◌∷◌, set, Option, Some, None, sym, refl, ap, ◌∙◌, subst, inl, inr}
+use Rattle.std.proofs.Common.{◌≡◌, ◌⊎◌, ◌+◌, ◌-◌, arith, ◌&&◌, ◌++◌, ℕ, Bool, true, false, true≢false, List, [], ◌∷◌, set, Option, Some, None, sym, refl, ap, ◌∙◌, subst, inl, inr, le-ltb, lt-ltb}
 use Rattle.std.specs.List.{list_all}
 use mathlib.Core.Option.{some, some-ne-none}
 use Rattle.ssq_outside.specs.declared.gate.TaskId.{TaskId}
@@ -22,7 +22,6 @@ use Rattle.ssq_board.specs.Follows.{Terms, State, Leads, change_of, Moves, IsOwn
 use Rattle.ssq_board.specs.Shelf.{Shelf, last_before, last_of, acknowledged_in, MayKeep, shelf_by}
 use Rattle.ssq_board.proofs.Keeping.{shelves_placed, shelves_stopped, shelves_plan, shelves_out, shelves_sync, shelves_commit, open_last, settled_last, closed_last, acknowledged_few, or_stop_none, no_upkeep}
 use Rattle.ssq_board.proofs.Upkeeping.{upkeep_follows, snapshot_follows, unmade_follows, untaken_follows, drop_follows, undropped_follows}
-use Rattle.ssq_board.proofs.Lists.{nat_lt-is, nat_lt-not}
 use Rattle.ssq_board.proofs.Sounds.{step_sound, due_none, outside_due, some_no}
 use Rattle.ssq_board.proofs.Placing.{placed_at, placed_twice, HasBrought, placed_shows, stopped_shows, maps_back, reduces_back, deltas_there, runs}
 use Rattle.ssq_board.proofs.Planning.{runs_on, goes_on, out_desk, out_may_on, out_shows, sync_may_on, sync_shows, commit_desk, commit_may_on, commit_shows, plan_desk, plan_may_on, plan_shows}
@@ -224,7 +223,7 @@ module _ (told : Type 0) (job : Job) (r : Scope) (next : Cuts → ℕ → Bool) 
       -- it brings no version; and where it is the out task, all deltas are there since it went out
       has : d.tasks t ≡ machine.out → HasBrought (job.course d.cuts) c d t (place.Back f) (or_stop c.front.stop (due c t f))
       has out = record {
-        own = λ i same back run less. absurd (true≢false (sym (nat_lt-is i (job.course d.cuts).keeping less)
+        own = λ i same back run less. absurd (true≢false (sym (lt-ltb i (job.course d.cuts).keeping less)
             ∙ subst (λ (x : TaskId). BringsNone (job.course d.cuts) x None) (sym same) (subst (BringsNone (job.course d.cuts) t) (back_is f None back) right.1)));
         all = λ same. elim (s.reduced m.0) [ inl waits ↦ absurd (out_waits (sym out ∙ sym (ap d.tasks same) ∙ waits)) | inr all ↦ all ];
       }
@@ -294,7 +293,7 @@ module _ (told : Type 0) (job : Job) (r : Scope) (next : Cuts → ℕ → Bool) 
         ),
         refl,
         plan_shows job r next terms c d sound s e m,
-        subst (λ (l : Option ℕ). Shelves l c.front.committed None k n) (settled_last c m.3 ∙ sym (open_last (after r c (entry.Plan e)) (nat_lt-is c.front.committed (c.front.planned + 1) (let b = sound.before in omega arith))))
+        subst (λ (l : Option ℕ). Shelves l c.front.committed None k n) (settled_last c m.3 ∙ sym (open_last (after r c (entry.Plan e)) (lt-ltb c.front.committed (c.front.planned + 1) (let b = sound.before in omega arith))))
             (shelves_plan (last_of c) c.front.committed e c.front.stop None k d (cuts_by r d.cuts c (entry.Plan e)) (λ none. m.0) held),
       )
 
@@ -361,7 +360,7 @@ module _ (told : Type 0) (job : Job) (r : Scope) (next : Cuts → ℕ → Bool) 
         refl,
         commit_shows job r next terms c d sound s e b m right,
         subst (λ (l : Option ℕ). Shelves l (c.front.committed + 1) None k n)
-            (open_last c m.2 ∙ ap last_before one_less ∙ sym (closed_last (after r c (entry.Commit e b)) (nat_lt-not (c.front.committed + 1) c.front.planned sound.near) refl))
+            (open_last c m.2 ∙ ap last_before one_less ∙ sym (closed_last (after r c (entry.Commit e b)) (le-ltb (c.front.committed + 1) c.front.planned sound.near) refl))
             (shelves_commit (last_of c) c.front.committed e c.front.stop None k d m.1 (λ none. m.0) held),
       )
     where

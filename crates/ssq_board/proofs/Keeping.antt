@@ -1,6 +1,6 @@
 -- The files of the state, and the snapshots that are being made, after each entry.
-use Rattle.std.proofs.Common.{◌≡◌, ◌⊎◌, ◌<◌, ◌≤◌, ◌+◌, ◌-◌, ◌++◌, ◌==◌, ◌&&◌, ◌||◌, nat_lt, ℕ, zero, suc, Bool, true, false, true≢false, List, [], ◌∷◌, Option, Some, None, if◌then◌else◌, sym, refl, ap, ◌∙◌, subst, inl, inr, arith, rules}
-use Rattle.std.proofs.lemmas.Bool.{cases_lt}
+use Rattle.std.proofs.Common.{◌≡◌, ◌⊎◌, ◌<◌, ◌≤◌, ◌+◌, ◌-◌, ◌++◌, ◌==◌, ◌&&◌, ◌||◌, nat_lt, ℕ, zero, suc, Bool, true, false, true≢false, List, [], ◌∷◌, Option, Some, None, if◌then◌else◌, sym, refl, ap, ◌∙◌, subst, inl, inr, arith, rules, ltb-true, lt-ltb, le-ltb}
+use Rattle.std.proofs.lemmas.Bool.{cases_lt, and_left, or_left, or_right}
 use Rattle.std.proofs.lemmas.Bool.Decides.{nat_tests}
 use Rattle.std.proofs.lemmas.List.Folds.{list_any-append}
 use Rattle.ssq_outside.specs.declared.name.Name.{Name}
@@ -31,12 +31,8 @@ other_kind kind.Reduce other = refl
 other_kind kind.Out other = refl
 other_kind kind.Upkeep other = absurd (other refl)
 
-and_first : (a b : Bool) → a ≡ false → (a && b) ≡ false
-and_first true b e = absurd (true≢false e)
-and_first false b e = refl
-
 other_task : (p v : ℕ) (t : TaskId) → (t.kind ≡ kind.Upkeep → ⊥) → same_task (upkeep p v) t ≡ false
-other_task p v t other = and_first (same_kind kind.Upkeep t.kind) (v == t.epoch && p == t.number) (other_kind t.kind other)
+other_task p v t other = and_left (same_kind kind.Upkeep t.kind) (v == t.epoch && p == t.number) (other_kind t.kind other)
 
 -- a task of an epoch is elsewhere, and perhaps there was a Stop
 pub shelves_placed : (last : Option ℕ) (committed : ℕ) (stop now : Option Cause) (s : Shelf) (d : Desk) (t : TaskId) (there : machine.Place) → (t.kind ≡ kind.Upkeep → ⊥) → (now ≡ None → stop ≡ None)
@@ -112,10 +108,6 @@ or_end false = refl
 pub among_end : (names : List Name) (q : Name) → is_among (names ++ []) q ≡ is_among names q
 among_end names q = list_any-append (λ n. same_name n q) names [] ∙ or_end (is_among names q)
 
-pub or_left : (a b : Bool) → a ≡ true → (a || b) ≡ true
-or_left true b is = refl
-or_left false b is = cc
-
 -- what no crash can take away is there
 pub sure_there : (last : Option ℕ) (committed : ℕ) (stop : Option Cause) (s : Shelf) (d : Desk) → Shelves last committed stop s d → (q : Name) → is_state q ≡ true → d.sure q ≡ true → d.there q ≡ true
 sure_there last committed stop s d k q is sure =
@@ -125,23 +117,14 @@ pub up_to_is : (n e : ℕ) → is_up_to (last_before n) e ≡ nat_lt e n
 up_to_is zero e = grind (arith, nat_tests)
 up_to_is (suc n) e = grind (arith, nat_tests)
 
-pub below_of : (e n : ℕ) → nat_lt e n ≡ true → e < n
-below_of e n h = grind (arith, nat_tests)
-
-is_below : (e n : ℕ) → e < n → nat_lt e n ≡ true
-is_below e n less = grind (arith, nat_tests)
-
-not_below : (e n : ℕ) → n ≤ e → nat_lt e n ≡ false
-not_below e n most = grind (arith, nat_tests)
-
 pub shelves_sync : (n committed : ℕ) (stop now : Option Cause) (s : Shelf) (d : Desk) → n ≤ committed → ((e : ℕ) → e < committed → d.there (name.Commit e) ≡ true) → (now ≡ None → stop ≡ None)
     → Shelves (last_before n) committed stop s d → Shelves (last_before committed) committed now (record { settled = there_in s; news = []; claimed = s.claimed; tidy = true }) (with_sync d)
 shelves_sync n committed stop now s d most there runs k = record {
   names = λ q is. k.names q is ∙ sym (among_end (there_in s) q);
   sure = k.names;
   acknowledged = λ e. elim (cases_lt e committed) [
-    | inl less ↦ there e less ∙ sym (up_to_is committed e ∙ is_below e committed less)
-    | inr above ↦ k.commits e above ∙ sym (up_to_is committed e ∙ not_below e committed above)
+    | inl less ↦ there e less ∙ sym (up_to_is committed e ∙ lt-ltb e committed less)
+    | inr above ↦ k.commits e above ∙ sym (up_to_is committed e ∙ le-ltb e committed above)
   ];
   commits = k.commits;
   tidy = λ is p v here. here;
@@ -156,7 +139,7 @@ shelves_sync n committed stop now s d most there runs k = record {
           gone.0,
           gone.1,
           sure_there (last_before n) committed stop s d k (name.Snapshot p gone.0) refl gone.2,
-          there (gone.0 + 20) (let less = below_of (gone.0 + 20) n (sym (up_to_is n (gone.0 + 20)) ∙ sym (k.acknowledged (gone.0 + 20)) ∙ gone.3) in omega (arith, less, most)),
+          there (gone.0 + 20) (let less = ltb-true (gone.0 + 20) n (sym (up_to_is n (gone.0 + 20)) ∙ sym (k.acknowledged (gone.0 + 20)) ∙ gone.3) in omega (arith, less, most)),
         )))
       ]
     ]
@@ -164,10 +147,6 @@ shelves_sync n committed stop now s d most there runs k = record {
 }
 
 -- ---- a file of the state is published
-
-pub or_right : (a b : Bool) → b ≡ true → (a || b) ≡ true
-or_right true b is = refl
-or_right false b is = is
 
 or_none : (a b : Bool) → b ≡ false → (a || b) ≡ a
 or_none true b e = refl

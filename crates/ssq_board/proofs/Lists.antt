@@ -1,6 +1,7 @@
 -- Lists of places, and of ends.
-use Rattle.std.proofs.Common.{◌≡◌, ◌≢◌, ◌⊎◌, ◌≤◌, ◌<◌, ◌&&◌, ◌||◌, nat_lt, ℕ, zero, suc, Bool, true, false, true≢false, List, [], ◌∷◌, map, length, set, replicate, Option, None, if◌then◌else◌, sym, refl, ap, ◌∙◌, inl, inr, arith, rules}
+use Rattle.std.proofs.Common.{◌≡◌, ◌≢◌, ◌⊎◌, ◌<◌, ◌&&◌, ◌||◌, nat_lt, ℕ, zero, suc, Bool, true, false, true≢false, List, [], ◌∷◌, map, length, set, replicate, Option, None, if◌then◌else◌, sym, refl, ap, ◌∙◌, inl, inr, arith, le-ltb}
 use Rattle.std.specs.List.{list_all}
+use Rattle.std.proofs.lemmas.Bool.{or_parts}
 use mathlib.Core.Option.{some, some-injective, some-ne-none}
 use lib.ListN.{get_elem?}
 use Rattle.ssq_core.specs.Course.{Ends}
@@ -109,32 +110,19 @@ dealt_at (f ∷ fs) (t ∷ ts) (suc i) p e = dealt_at fs ts i p e
 pub back_no_more : place.Back None ≡ place.Waits → ⊥
 back_no_more e = cc
 
-pub nat_lt-not : (a b : ℕ) → b ≤ a → nat_lt a b ≡ false
-nat_lt-not a b le = grind (arith, rules)
-
-pub nat_lt-is : (a b : ℕ) → a < b → nat_lt a b ≡ true
-nat_lt-is a b less = grind (arith, rules)
-
-pub nat_lt-less : (a b : ℕ) → nat_lt a b ≡ true → a < b
-nat_lt-less a b e = grind (arith, rules)
-
 -- where nothing more was found, the next cut has no lines
 next_same : (cap : Option ℕ) (e s : ℕ) → nat_lt e s ≡ false → nat_lt e (next_end cap e s) ≡ false
-next_same cap e s h = ap (λ (b : Bool). nat_lt e (if b then within cap e s else e)) h ∙ nat_lt-not e e (omega arith)
-
-or_false : (a b : Bool) → (a || b) ≡ false → (a ≡ false) × (b ≡ false)
-or_false false b h = (refl, h)
-or_false true b h = absurd (true≢false h)
+next_same cap e s h = ap (λ (b : Bool). nat_lt e (if b then within cap e s else e)) h ∙ le-ltb e e (omega arith)
 
 no_end : (es : Ends) → has_line es es ≡ false
 no_end [] = refl
-no_end (e ∷ es) = (λ i. nat_lt-not e.end e.end (omega arith) i || no_end es i)
+no_end (e ∷ es) = (λ i. le-ltb e.end e.end (omega arith) i || no_end es i)
 
 pub not_behind : (cap : Option ℕ) (es : Ends) (ss : List ℕ) → is_behind es ss ≡ false → has_line es (next_ends cap es ss) ≡ false
 not_behind cap [] ss h = refl
-not_behind cap (e ∷ es) [] h = (λ i. nat_lt-not e.end e.end (omega arith) i || none es i)
+not_behind cap (e ∷ es) [] h = (λ i. le-ltb e.end e.end (omega arith) i || none es i)
   where
     none : (es : Ends) → has_line es (next_ends cap es []) ≡ false
     none [] = refl
-    none (e ∷ es) = (λ i. nat_lt-not e.end e.end (omega arith) i || none es i)
-not_behind cap (e ∷ es) (s ∷ ss) h = let b = or_false (nat_lt e.end s) (is_behind es ss) h in (λ i. next_same cap e.end s b.0 i || not_behind cap es ss b.1 i)
+    none (e ∷ es) = (λ i. le-ltb e.end e.end (omega arith) i || none es i)
+not_behind cap (e ∷ es) (s ∷ ss) h = let b = or_parts (nat_lt e.end s) (is_behind es ss) h in (λ i. next_same cap e.end s b.0 i || not_behind cap es ss b.1 i)

@@ -1,5 +1,5 @@
 -- How many entries can still come, after each entry.
-use Rattle.std.proofs.Common.{◌≡◌, ◌+◌, ◌*◌, ◌≤◌, nat_lt, ℕ, zero, suc, Bool, true, false, true≢false, List, [], ◌∷◌, length, set, Option, Some, None, if◌then◌else◌, sym, ap, ◌∙◌, arith}
+use Rattle.std.proofs.Common.{◌≡◌, ◌+◌, ◌*◌, ◌≤◌, nat_lt, ℕ, zero, suc, Bool, true, false, true≢false, List, [], ◌∷◌, length, set, Option, Some, None, if◌then◌else◌, sym, ap, ◌∙◌, arith, le-ltb}
 use mathlib.Core.Option.{some, some-injective, some-ne-none}
 use lib.ListN.{get_elem?}
 use Rattle.ssq_outside.specs.declared.gate.TaskId.{TaskId}
@@ -14,7 +14,6 @@ use Rattle.ssq_board.specs.declared.front.Entry.TheVariants as entry
 use Rattle.ssq_board.specs.Core.{Scope, Core, total, need_of, file_need, stop_need, need, is_open, at, moved, with_front, with_tasks, tasks_of, stopped_front, or_stop, due, May, after}
 use Rattle.ssq_board.specs.Shown.{IsSound}
 use Rattle.ssq_board.specs.Rounds.{spends}
-use Rattle.ssq_board.proofs.Lists.{nat_lt-not}
 
 total_set : {A : Type 0} (g : A → ℕ) (l : List A) (j : ℕ) (v w : A) → get_elem? l j ≡ some v → total g (set l j w) + g v ≡ total g l + g w
 total_set g [] j v w e = absurd (some-ne-none v (sym e))
@@ -91,7 +90,7 @@ need_falls r c (entry.OutFile e) d m h =
     omega arith
 need_falls r c (entry.Commit e b) d m h =
     let one : file_need c ≡ 1 = open_is c m.2 ∙ ap (λ (b : Bool). if b then 1 else 2) m.4 in
-    let none : file_need (after r c (entry.Commit e b)) ≡ 0 = ap (λ (b : Bool). if b then (if c.front.written then 1 else 2) else 0) (nat_lt-not (c.front.committed + 1) c.front.planned d.near) in
+    let none : file_need (after r c (entry.Commit e b)) ≡ 0 = ap (λ (b : Bool). if b then (if c.front.written then 1 else 2) else 0) (le-ltb (c.front.committed + 1) c.front.planned d.near) in
     let run = running_one c m.0 in
     omega arith
 need_falls r c (entry.Upkeep p v) d m h = absurd (true≢false (sym h))

@@ -1,5 +1,5 @@
 -- What the machine's Open leaves is shown by the first state.
-use Rattle.std.proofs.Common.{◌≡◌, ◌+◌, ◌<◌, ◌++◌, nat_lt, ℕ, Bool, true, false, true≢false, replicate, List, length, Option, None, is_some, sym, refl, ap, ◌∙◌, subst, inl, inr, arith}
+use Rattle.std.proofs.Common.{◌≡◌, ◌+◌, ◌<◌, ◌++◌, nat_lt, ℕ, Bool, true, false, true≢false, replicate, List, length, Option, None, is_some, sym, refl, ap, ◌∙◌, subst, inl, inr, arith, le-ltb, lt-ltb, ltb-true}
 use mathlib.Core.Option.{some, some-ne-none}
 use lib.ListN.{get_elem?}
 use Rattle.ssq_outside.specs.declared.name.Name.{Name}
@@ -20,7 +20,7 @@ use Rattle.ssq_board.specs.Shown.{Start, planned_by, first_place, first_by}
 use Rattle.ssq_board.specs.Shelf.{Shelf, IsFirstShelf, there_in}
 use Rattle.ssq_board.specs.Follows.{Terms, map_task, ShowsAt, Shows, ShowsShelf}
 use Rattle.ssq_board.proofs.Keeping.{among_end, settled_last, up_to_is}
-use Rattle.ssq_board.proofs.Lists.{at_length, replicate_length, replicate_at, one_at, dealt_at, dealt_length, line_below, back_no_more, nat_lt-is, nat_lt-less, nat_lt-not}
+use Rattle.ssq_board.proofs.Lists.{at_length, replicate_length, replicate_at, one_at, dealt_at, dealt_length, line_below, back_no_more}
 
 module _ (job : Job) (r : Scope) (next : Cuts → ℕ → Bool) (terms : Terms job r next) (s : Start) (files : Files) (d : Desk) (committed : d.committed ≡ s.committed)
     (begins : d.cuts 0 ≡ terms.start) (from : d.cuts s.committed ≡ s.from) (op : opened job files d) where
@@ -31,10 +31,10 @@ module _ (job : Job) (r : Scope) (next : Cuts → ℕ → Bool) (terms : Terms j
   sure_of q h = op.3 q ∙ h
 
   plan_file : (b : Bool) → d.planned ≡ planned_by b s.committed → (e : ℕ) → e < planned_by b s.committed → is_some (files (name.Plan e)) ≡ true
-  plan_file b planned e less = op.0.needed (name.Plan e) (nat_lt-is e d.planned (omega (arith, planned)))
+  plan_file b planned e less = op.0.needed (name.Plan e) (lt-ltb e d.planned (omega (arith, planned)))
 
   commit_file : (e : ℕ) → e < s.committed → is_some (files (name.Commit e)) ≡ true
-  commit_file e less = op.0.needed (name.Commit e) (nat_lt-is e d.committed (omega (arith, committed)))
+  commit_file e less = op.0.needed (name.Commit e) (lt-ltb e d.committed (omega (arith, committed)))
 
   waits_failed : machine.waits ≡ machine.failed → ⊥
   waits_failed e = cc
@@ -50,7 +50,7 @@ module _ (job : Job) (r : Scope) (next : Cuts → ℕ → Bool) (terms : Terms j
 
   -- those of an epoch that runs
   dealt_first : (b : Bool) → d.cuts (planned_by b s.committed) ≡ s.to → is_open (first_by b r s) ≡ true → AreDealt (first_by b r s)
-  dealt_first false to open_ = absurd (true≢false (sym open_ ∙ nat_lt-not s.committed s.committed (omega arith)))
+  dealt_first false to open_ = absurd (true≢false (sym open_ ∙ le-ltb s.committed s.committed (omega arith)))
   dealt_first true to open_ = record {
     tasks = λ t p epoch here. by_kind t.kind t p refl epoch here;
     deltas = λ i here. back_no_more (replicate_at r.partitions i (first_place true) (place.Back None) here);
@@ -75,7 +75,7 @@ module _ (job : Job) (r : Scope) (next : Cuts → ℕ → Bool) (terms : Terms j
           let it = as_task kind.Reduce t same epoch in
           let task_is = ap (job.course d.cuts).is_task it ∙ terms.reduces d.cuts s.committed t.number in
           let below : t.number < r.partitions = (let a = at_length (replicate r.partitions (first_place true)) t.number p here in let l = replicate_length r.partitions (first_place true) in omega arith) in
-          shows_it t p (replicate_at r.partitions t.number (first_place true) p here) (task_is ∙ nat_lt-is t.number r.partitions below)
+          shows_it t p (replicate_at r.partitions t.number (first_place true) p here) (task_is ∙ lt-ltb t.number r.partitions below)
       by_kind kind.Out t p same epoch here =
           let o = one_at place.Waits p t.number here in
           let it : t ≡ out_task s.committed = (λ i. record { epoch = epoch i; kind = same i; number = o.0 i }) in
@@ -91,7 +91,7 @@ module _ (job : Job) (r : Scope) (next : Cuts → ℕ → Bool) (terms : Terms j
     proper = subst (λ (n : ℕ). AreProper job d.cuts n) planned op.1;
     settled = λ h q other there. op.3 q ∙ sym (op.2 q) ∙ there;
     plan_there = λ e less. there_of (name.Plan e) (plan_file b planned e less);
-    plan_settled = λ o f. sure_of (name.Plan s.committed) (plan_file b planned s.committed (nat_lt-less s.committed (planned_by b s.committed) o));
+    plan_settled = λ o f. sure_of (name.Plan s.committed) (plan_file b planned s.committed (ltb-true s.committed (planned_by b s.committed) o));
     commits = λ e less. there_of (name.Commit e) (commit_file e less);
     written = λ o w. absurd (true≢false (sym w));
     tasks = λ o. (dealt_first b to o).tasks;
@@ -107,7 +107,7 @@ module _ (job : Job) (r : Scope) (next : Cuts → ℕ → Bool) (terms : Terms j
     where
       due_by : (b : Bool) → (b ≡ false → s.due ≡ next d.cuts s.committed) → is_open (first_by b r s) ≡ false → s.due ≡ next d.cuts (planned_by b s.committed)
       due_by false due h = due refl
-      due_by true due h = absurd (true≢false (sym (nat_lt-is s.committed (s.committed + 1) (omega arith)) ∙ h))
+      due_by true due h = absurd (true≢false (sym (lt-ltb s.committed (s.committed + 1) (omega arith)) ∙ h))
 
 -- The shelf of all files of the state that are there shows what was opened.
 module _ (job : Job) (r : Scope) (s : Start) (files : Files) (d : Desk) (shelf : Shelf) (committed : d.committed ≡ s.committed) (op : opened job files d) (begins : IsFirstShelf files shelf) where
@@ -131,7 +131,7 @@ module _ (job : Job) (r : Scope) (s : Start) (files : Files) (d : Desk) (shelf :
     names = λ q is. op.2 q ∙ first_names q is;
     sure = first_sure;
     acknowledged = λ e. op.3 (name.Commit e) ∙ commit_at e ∙ sym (ap (λ (l : Option ℕ). is_up_to l e) (settled_last (first_by b r s) refl) ∙ up_to_is s.committed e);
-    commits = λ e above. op.2 (name.Commit e) ∙ commit_at e ∙ nat_lt-not e s.committed above;
+    commits = λ e above. op.2 (name.Commit e) ∙ commit_at e ∙ le-ltb e s.committed above;
     tidy = λ h p v there. op.3 (name.Snapshot p v) ∙ sym (op.2 (name.Snapshot p v)) ∙ there;
     claimed = λ p v is. absurd (true≢false (sym is ∙ ap (λ (l : List Name). is_among l (name.Snapshot p v)) begins.claimed));
     kept = λ run p v. inl (op.4 (upkeep p v));

@@ -1,5 +1,5 @@
 -- A task that leaves the desk or comes back: the desk still shows the machine's.
-use Rattle.std.proofs.Common.{◌≡◌, ◌≢◌, ◌⊎◌, ◌≤◌, ◌<◌, ◌&&◌, ◌==◌, nat_lt, ℕ, Bool, true, false, true≢false, List, length, set, Option, Some, None, is_some, if◌then◌else◌, sym, refl, ap, ◌∙◌, subst, inl, inr, arith, rules}
+use Rattle.std.proofs.Common.{◌≡◌, ◌≢◌, ◌⊎◌, ◌≤◌, ◌<◌, ◌&&◌, ◌==◌, nat_lt, ℕ, Bool, true, false, true≢false, List, length, set, Option, Some, None, is_some, if◌then◌else◌, sym, refl, ap, ◌∙◌, subst, inl, inr, arith, rules, ltb-true}
 use Rattle.std.specs.List.{list_all}
 use mathlib.Core.Option.{some, some-injective, some-ne-none}
 use lib.ListN.{get_elem?}
@@ -19,7 +19,7 @@ use Rattle.ssq_board.specs.declared.front.Place.TheVariants as place
 use Rattle.ssq_board.specs.Core.{Scope, Core, tasks_of, if_map, with_tasks, at, moved, with_front, is_open, is_fine, stopped_front}
 use Rattle.ssq_board.specs.Shown.{IsSound}
 use Rattle.ssq_board.specs.Follows.{Terms, map_task, IsDone, ShowsAt, AreThere, is_snapshot, Shows}
-use Rattle.ssq_board.proofs.Lists.{put_here, put_else, set_length, there_at, all_fine, nat_lt-less}
+use Rattle.ssq_board.proofs.Lists.{put_here, put_else, set_length, there_at, all_fine}
 use Rattle.ssq_board.proofs.Sounds.{open_less}
 
 pub done_back : (course : Course) (t : TaskId) (there : machine.Place) → IsDone course t there → IsBack course t there
@@ -259,7 +259,7 @@ module _ (job : Job) (r : Scope) (due : Cuts → ℕ → Bool) (terms : Terms jo
   -- a reduce task of the epoch has its place
   reduce_at : (c : Core) (d : Desk) (p : ℕ) → IsSound r c → (job.course d.cuts).is_task (reduce c.front.committed p) ≡ true → (q : Place) × (at c (reduce c.front.committed p) ≡ some q)
   reduce_at c d p sound task =
-      let below = nat_lt-less p r.partitions (sym (terms.reduces d.cuts c.front.committed p) ∙ task) in
+      let below = ltb-true p r.partitions (sym (terms.reduces d.cuts c.front.committed p) ∙ task) in
       there_at c.reduces p (let l = sound.reduces in omega arith)
 
   pub reduces_back : (c : Core) (d : Desk) → IsSound r c → Shows job r due terms c d → is_open c ≡ true → list_all is_fine c.reduces ≡ true → AreBack (job.course d.cuts) c.front.committed kind.Reduce d.tasks

@@ -1,8 +1,8 @@
 -- Entries that publish or sync may come on the machine's desk, and the desk shows it after them.
-use Rattle.std.proofs.Common.{◌≡◌, ◌⊎◌, ◌+◌, ◌<◌, ◌&&◌, ◌||◌, ℕ, Bool, true, false, true≢false, List, map, Option, Some, None, if◌then◌else◌, sym, refl, ap, ◌∙◌, subst, inl, inr, arith}
+use Rattle.std.proofs.Common.{◌≡◌, ◌⊎◌, ◌+◌, ◌<◌, ◌&&◌, ◌||◌, ℕ, Bool, true, false, true≢false, List, map, Option, Some, None, if◌then◌else◌, sym, refl, ap, ◌∙◌, subst, inl, inr, arith, le-ltb, lt-ltb}
 use mathlib.Core.Option.{some, some-ne-none}
 use lib.ListN.{get_elem?}
-use Rattle.std.proofs.lemmas.Bool.{cases_lt}
+use Rattle.std.proofs.lemmas.Bool.{cases_lt, and_right}
 use Rattle.ssq_outside.specs.declared.name.Name.{Name}
 use Rattle.ssq_outside.specs.declared.name.Name.TheVariants as name
 use Rattle.ssq_outside.specs.declared.gate.TaskId.{TaskId}
@@ -21,7 +21,7 @@ use Rattle.ssq_board.specs.declared.front.Entry.TheVariants as entry
 use Rattle.ssq_board.specs.Core.{Scope, Core, next_ends, is_behind, has_line, has_line_at, is_open, tasks_of, extended, May, after}
 use Rattle.ssq_board.specs.Shown.{IsSound}
 use Rattle.ssq_board.specs.Follows.{Terms, map_task, change_of, IsDone, ShowsAt, AreThere, Shows, life_of}
-use Rattle.ssq_board.proofs.Lists.{at_length, const_at, map_length, one_at, dealt_at, dealt_length, line_below, not_behind, back_no_more, nat_lt-is, nat_lt-not}
+use Rattle.ssq_board.proofs.Lists.{at_length, const_at, map_length, one_at, dealt_at, dealt_length, line_below, not_behind, back_no_more}
 use Rattle.ssq_board.proofs.Sounds.{open_less, open_not}
 use Rattle.ssq_board.proofs.Placing.{runs, same_at, shows_else}
 
@@ -48,10 +48,6 @@ done_went course t there done waits = (let e = sym waits ∙ done.is in back_wai
 
 less_or : (e n : ℕ) → e < n + 1 → (e < n) ⊎ (e ≡ n)
 less_or e n less = elim (cases_lt e n) [ inl l ↦ inl l | inr le ↦ inr (omega arith) ]
-
-and_no : (a b : Bool) → b ≡ false → (a && b) ≡ false
-and_no true b h = h
-and_no false b h = refl
 
 and_yes : (a b : Bool) → b ≡ true → (a && b) ≡ a
 and_yes true b h = h
@@ -172,14 +168,14 @@ module _ (job : Job) (r : Scope) (due : Cuts → ℕ → Bool) (terms : Terms jo
   }
     where
       closed : is_open (after r c (entry.Commit e next)) ≡ false
-      closed = nat_lt-not (c.front.committed + 1) c.front.planned sound.near
+      closed = le-ltb (c.front.committed + 1) c.front.planned sound.near
 
       all : c.front.committed + 1 ≡ c.front.planned
       all = (let a = sound.near in let b = open_less c m.2 in omega arith)
 
       by : (b : Bool) → c.front.has_lines ≡ b → (next && c.front.has_lines) ≡ due d.cuts c.front.planned
       by true lines = and_yes next c.front.has_lines lines ∙ right ∙ ap (due d.cuts) (ap (λ (x : ℕ). x + 1) m.1 ∙ all)
-      by false lines = and_no next c.front.has_lines lines
+      by false lines = and_right next c.front.has_lines lines
           ∙ sym (terms.quiet d.cuts c.front.committed (subst (λ (n : ℕ). AreProper job d.cuts n) (sym all) s.proper)
           (subst (λ (n : ℕ). has_line (d.cuts c.front.committed) (d.cuts n) ≡ false) (sym all) (s.has_lines m.2 lines))) ∙ ap (due d.cuts) all
 
@@ -191,10 +187,10 @@ module _ (job : Job) (r : Scope) (due : Cuts → ℕ → Bool) (terms : Terms jo
   plan_desk e = with_file (name.Plan e) (with_plan next_cuts d)
 
   same_below : AreSameUpTo d.cuts next_cuts c.front.planned
-  same_below k le = sym (ap (λ (b : Bool). if b then next_ends r.cap c.ends r.available else d.cuts k) (nat_lt-not c.front.planned k le))
+  same_below k le = sym (ap (λ (b : Bool). if b then next_ends r.cap c.ends r.available else d.cuts k) (le-ltb c.front.planned k le))
 
   next_is : next_cuts (c.front.planned + 1) ≡ next_ends r.cap c.ends r.available
-  next_is = ap (λ (b : Bool). if b then next_ends r.cap c.ends r.available else d.cuts (c.front.planned + 1)) (nat_lt-is c.front.planned (c.front.planned + 1) (omega arith))
+  next_is = ap (λ (b : Bool). if b then next_ends r.cap c.ends r.available else d.cuts (c.front.planned + 1)) (lt-ltb c.front.planned (c.front.planned + 1) (omega arith))
 
   here_is : next_cuts c.front.planned ≡ c.ends
   here_is = sym (same_below c.front.planned (omega arith)) ∙ s.ends
@@ -253,7 +249,7 @@ module _ (job : Job) (r : Scope) (due : Cuts → ℕ → Bool) (terms : Terms jo
     later = λ t le. s.later t (omega (arith, le));
     whole = λ run. s.whole m.0;
     has_lines = λ o h. (λ i. has_line (from_is i) (next_is i)) ∙ not_behind r.cap c.ends r.available h;
-    due = λ h. absurd (true≢false (sym (nat_lt-is c.front.committed (c.front.planned + 1) (let a = all_committed e m in omega arith)) ∙ h));
+    due = λ h. absurd (true≢false (sym (lt-ltb c.front.committed (c.front.planned + 1) (let a = all_committed e m in omega arith)) ∙ h));
   }
     where
       from_is : next_cuts c.front.committed ≡ c.ends
@@ -283,7 +279,7 @@ module _ (job : Job) (r : Scope) (due : Cuts → ℕ → Bool) (terms : Terms jo
           let it = as_task kind.Reduce t same epoch in
           let task_is = ap (job.course next_cuts).is_task it ∙ terms.reduces next_cuts c.front.committed t.number in
           let below : t.number < r.partitions = (let a = at_length (map (λ _. place.Waits) c.reduces) t.number p here in let l = map_length (λ _. place.Waits) c.reduces in let n = sound.reduces in omega arith) in
-          shows t p (const_at place.Waits p c.reduces t.number here) (task_is ∙ nat_lt-is t.number r.partitions below) (waiting t epoch)
+          shows t p (const_at place.Waits p c.reduces t.number here) (task_is ∙ lt-ltb t.number r.partitions below) (waiting t epoch)
       by_kind kind.Out t p same epoch here =
           let o = one_at place.Waits p t.number here in
           let it : t ≡ out_task c.front.committed = (λ i. record { epoch = epoch i; kind = same i; number = o.0 i }) in

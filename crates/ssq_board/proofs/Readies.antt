@@ -1,6 +1,8 @@
 -- What is next may come.
-use Rattle.std.proofs.Common.{◌≡◌, ◌⊎◌, ◌<◌, ◌≤◌, ◌&&◌, ◌||◌, not, ℕ, Bool, true, false, true≢false, None, if◌then◌else◌, sym, refl, ap, ◌∙◌, inl, inr}
+use Rattle.std.proofs.Common.{◌≡◌, ◌⊎◌, ◌<◌, ◌≤◌, ◌&&◌, not, ℕ, Bool, true, false, true≢false, None, if◌then◌else◌, sym, refl, ap, ◌∙◌, inl, inr}
 use Rattle.std.specs.List.{list_all, list_any}
+use Rattle.std.proofs.lemmas.Bool.{or_parts}
+use borrow.Author.Tests.{not-false, not-true}
 use mathlib.Core.Option.{some}
 use lib.ListN.{get_elem?}
 use Rattle.ssq_outside.specs.declared.gate.Kind.TheVariants as kind
@@ -20,18 +22,6 @@ past false x y z e never = (refl, e)
 pub chosen : (b : Bool) (x y z : Ready) → (if b then x else y) ≡ z → ((b ≡ true) × (x ≡ z)) ⊎ ((b ≡ false) × (y ≡ z))
 chosen true x y z e = inl (refl, e)
 chosen false x y z e = inr (refl, e)
-
-not_false : (b : Bool) → not b ≡ false → b ≡ true
-not_false true e = refl
-not_false false e = absurd (true≢false e)
-
-pub not_true : (b : Bool) → not b ≡ true → b ≡ false
-not_true false e = refl
-not_true true e = absurd (true≢false (sym e))
-
-or_parts : (a b : Bool) → (a || b) ≡ false → (a ≡ false) × (b ≡ false)
-or_parts false b e = (refl, e)
-or_parts true b e = absurd (true≢false e)
 
 first_not : (b : Bool) (x y z : Ready) → b ≡ false → (if b then x else y) ≡ z → y ≡ z
 first_not true x y z not_it e = absurd (true≢false not_it)
@@ -72,7 +62,7 @@ tasks_commit c e =
     let a = past (not c.front.fresh) _ _ _ e (λ x. cc) in
     let k = tasks_done c ready.Commit e a.0 (λ x. cc) (λ x. cc) in
     elim (chosen c.front.settled ready.Commit ready.Sync ready.Commit k.1) [
-      | inl yes_it ↦ (not_false c.front.fresh a.0, not_false c.front.written k.0, yes_it.0)
+      | inl yes_it ↦ (not-false c.front.fresh a.0, not-false c.front.written k.0, yes_it.0)
       | inr no_it ↦ absurd (let x = no_it.1 in cc)
     ]
 
@@ -94,7 +84,7 @@ plan_is r c e =
       | inr closed ↦
           let b = past (not c.front.settled) _ _ _ closed.1 (λ x. cc) in
           elim (chosen (is_more r c) ready.Plan ready.Over ready.Plan b.1) [
-            | inl more ↦ (running_of c.front.stop a.0, closed.0, not_false c.front.settled b.0, more.0)
+            | inl more ↦ (running_of c.front.stop a.0, closed.0, not-false c.front.settled b.0, more.0)
             | inr over ↦ absurd (let x = over.1 in cc)
           ]
     ]
@@ -111,21 +101,21 @@ tasks_wait : (c : Core) → ready_tasks c ≡ ready.Task → (c.front.fresh ≡ 
     × ((list_any is_waiting c.reduces ≡ true) ⊎ ((list_any is_waiting c.reduces ≡ false) × (list_all is_fine c.reduces ≡ true) × (list_any is_waiting c.outs ≡ true)))))
 tasks_wait c e =
     let a = past (not c.front.fresh) _ _ _ e (λ x. cc) in (
-      not_false c.front.fresh a.0,
+      not-false c.front.fresh a.0,
       elim (chosen (list_any is_waiting c.maps) _ _ _ a.1) [
         | inl here ↦ inl here.0
         | inr no_map ↦
             let d = past (not (list_all is_fine c.maps)) _ _ _ no_map.1 (λ x. cc) in
             inr (
               no_map.0,
-              not_false _ d.0,
+              not-false _ d.0,
               elim (chosen (list_any is_waiting c.reduces) _ _ _ d.1) [
                 | inl here ↦ inl here.0
                 | inr no_reduce ↦
                     let f = past (not (list_all is_fine c.reduces)) _ _ _ no_reduce.1 (λ x. cc) in
                     inr (
                       no_reduce.0,
-                      not_false _ f.0,
+                      not-false _ f.0,
                       elim (chosen (list_any is_waiting c.outs) _ _ _ f.1) [
                         | inl here ↦ here.0
                         | inr none ↦ absurd (
@@ -158,7 +148,7 @@ over_is r c e =
           let b = past (not c.front.settled) _ _ _ closed.1 (λ x. cc) in
           let d = past (is_more r c) _ _ _ b.1 (λ x. cc) in
           let o = or_parts (is_behind c.ends r.available) c.front.due d.0 in
-          (running_of c.front.stop a.0, open_not c closed.0, not_false c.front.settled b.0, o.0, o.1)
+          (running_of c.front.stop a.0, open_not c closed.0, not-false c.front.settled b.0, o.0, o.1)
     ]
 
 -- where a sync is next
@@ -169,7 +159,7 @@ sync_due r c e =
       elim (chosen (is_open c) (ready_tasks c) _ _ a.1) [
         | inl opened ↦ by_tasks opened.0 opened.1
         | inr closed ↦ elim (chosen (not c.front.settled) _ _ _ closed.1) [
-          | inl here ↦ inl (not_true c.front.settled here.0)
+          | inl here ↦ inl (not-true c.front.settled here.0)
           | inr not_here ↦ absurd (elim (chosen (is_more r c) ready.Plan ready.Over ready.Sync not_here.1) [ inl x ↦ (let y = x.1 in cc) | inr x ↦ (let y = x.1 in cc) ])
         ]
       ],
@@ -177,7 +167,7 @@ sync_due r c e =
   where
     by_tasks : is_open c ≡ true → ready_tasks c ≡ ready.Sync → (c.front.settled ≡ false) ⊎ ((is_open c ≡ true) × (c.front.fresh ≡ false))
     by_tasks opened e = elim (chosen (not c.front.fresh) _ _ _ e) [
-      | inl stale ↦ inr (opened, not_true c.front.fresh stale.0)
+      | inl stale ↦ inr (opened, not-true c.front.fresh stale.0)
       | inr fresh ↦
           let k = tasks_done c ready.Sync e fresh.0 (λ x. cc) (λ x. cc) in
           inl (past c.front.settled _ _ _ k.1 (λ x. cc)).0

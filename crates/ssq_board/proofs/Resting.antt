@@ -1,6 +1,8 @@
 -- On one thread something can always be done, as long as the round is not over and not stopped.
-use Rattle.std.proofs.Common.{◌≡◌, ◌⊎◌, ◌+◌, ◌&&◌, ◌||◌, not, nat_lt, ℕ, zero, suc, Bool, true, false, true≢false, List, [], ◌∷◌, map, length, set, replicate, Option, Some, None, if◌then◌else◌, sym, refl, ap, ◌∙◌, subst, inl, inr, arith}
+use Rattle.std.proofs.Common.{◌≡◌, ◌⊎◌, ◌+◌, ◌&&◌, ◌||◌, not, nat_lt, ℕ, zero, suc, Bool, true, false, true≢false, List, [], ◌∷◌, map, length, set, replicate, Option, Some, None, if◌then◌else◌, sym, refl, ap, ◌∙◌, subst, inl, inr, arith, le-ltb}
 use Rattle.std.specs.List.{list_all, list_any}
+use Rattle.std.proofs.lemmas.Bool.{or_parts}
+use borrow.Author.Tests.{not-true}
 use mathlib.Core.Option.{some, some-ne-none}
 use lib.ListN.{get_elem?}
 use Rattle.ssq_outside.specs.declared.gate.TaskId.{TaskId}
@@ -15,20 +17,15 @@ use Rattle.ssq_board.specs.declared.front.Ready.TheVariants as ready
 use Rattle.ssq_board.specs.Core.{Scope, Core, next_ends, dealt, is_waiting, is_fine, is_here, is_open, is_stopped, is_more, fault_at, fault_in, worse, due_of, due_stop, or_stop, tasks_of, with_tasks, moved, if_out, May, after, after_all, ready_tasks, ready_of}
 use Rattle.ssq_board.specs.Shown.{Start, first, first_by, first_place, IsSound}
 use Rattle.ssq_board.specs.Rounds.{Comes, brings_rows, works, Worked, Versioned, is_away, IsAtRest}
-use Rattle.ssq_board.proofs.Lists.{nat_lt-not}
 use Rattle.ssq_board.proofs.Sounds.{running_of}
-use Rattle.ssq_board.proofs.Readies.{past, chosen, not_true}
-
-or_false : (a b : Bool) → (a || b) ≡ false → (a ≡ false) × (b ≡ false)
-or_false false b h = (refl, h)
-or_false true b h = absurd (true≢false h)
+use Rattle.ssq_board.proofs.Readies.{past, chosen}
 
 -- where no task waits or is away, each is here
 here_all : (ps : List Place) → list_any is_waiting ps ≡ false → list_any is_away ps ≡ false → list_all is_here ps ≡ true
 here_all [] w a = refl
 here_all (p ∷ ps) w a =
-    let w2 = or_false (is_waiting p) (list_any is_waiting ps) w in
-    let a2 = or_false (is_away p) (list_any is_away ps) a in
+    let w2 = or_parts (is_waiting p) (list_any is_waiting ps) w in
+    let a2 = or_parts (is_away p) (list_any is_away ps) a in
     (λ i. one p w2.0 a2.0 i && here_all ps w2.1 a2.1 i)
   where
     one : (p : Place) → is_waiting p ≡ false → is_away p ≡ false → is_here p ≡ true
@@ -79,17 +76,17 @@ module _ (r : Scope) (c : Core) (sound : IsSound r c) (rest : IsAtRest c) where
       let a = past (not c.front.fresh) _ _ _ e (λ x. cc) in
       let b = past (list_any is_waiting c.maps) _ _ _ a.1 (λ x. cc) in
       elim (chosen (not (list_all is_fine c.maps)) _ _ _ b.1) [
-        | inl stuck ↦ true≢false (sym (phase_done c.maps b.0 (rest.here kind.Map) (sound.calm running kind.Map)) ∙ not_true (list_all is_fine c.maps) stuck.0)
+        | inl stuck ↦ true≢false (sym (phase_done c.maps b.0 (rest.here kind.Map) (sound.calm running kind.Map)) ∙ not-true (list_all is_fine c.maps) stuck.0)
         | inr d ↦
             let f = past (list_any is_waiting c.reduces) _ _ _ d.1 (λ x. cc) in
             elim (chosen (not (list_all is_fine c.reduces)) _ _ _ f.1) [
-              | inl stuck ↦ true≢false (sym (phase_done c.reduces f.0 (rest.here kind.Reduce) (sound.calm running kind.Reduce)) ∙ not_true (list_all is_fine c.reduces) stuck.0)
+              | inl stuck ↦ true≢false (sym (phase_done c.reduces f.0 (rest.here kind.Reduce) (sound.calm running kind.Reduce)) ∙ not-true (list_all is_fine c.reduces) stuck.0)
               | inr g ↦
                   let h = past (list_any is_waiting c.outs) _ _ _ g.1 (λ x. cc) in
                   elim (chosen (not c.front.written) _ _ _ h.1) [
                     | inl unwritten ↦ elim (rest.outs opened running) [
                       | inl waits ↦ true≢false (sym (ap (list_any is_waiting) waits) ∙ h.0)
-                      | inr written ↦ true≢false (sym written ∙ not_true c.front.written unwritten.0)
+                      | inr written ↦ true≢false (sym written ∙ not-true c.front.written unwritten.0)
                     ]
                     | inr k ↦ elim (chosen c.front.settled ready.Commit ready.Sync ready.Idle k.1) [ inl x ↦ (let y = x.1 in cc) | inr x ↦ (let y = x.1 in cc) ]
                   ]
@@ -123,8 +120,8 @@ wait_here (x ∷ xs) = wait_here xs
 -- a task that went and came back
 back_here : (ps : List Place) (i : ℕ) (p : Place) (f : Option Cause) → list_any is_away ps ≡ false → list_any is_away (set (set ps i p) i (place.Back f)) ≡ false
 back_here [] i p f h = refl
-back_here (q ∷ qs) zero p f h = (or_false (is_away q) (list_any is_away qs) h).1
-back_here (q ∷ qs) (suc i) p f h = let b = or_false (is_away q) (list_any is_away qs) h in (λ j. b.0 j || back_here qs i p f b.1 j)
+back_here (q ∷ qs) zero p f h = (or_parts (is_away q) (list_any is_away qs) h).1
+back_here (q ∷ qs) (suc i) p f h = let b = or_parts (is_away q) (list_any is_away qs) h in (λ j. b.0 j || back_here qs i p f b.1 j)
 
 -- an entry that moves no task
 pub front_here : (c n : Core) → n.maps ≡ c.maps → n.reduces ≡ c.reduces → n.outs ≡ c.outs → ((k : Kind) → list_any is_away (tasks_of k c) ≡ false) → (k : Kind) → list_any is_away (tasks_of k n) ≡ false
@@ -148,7 +145,7 @@ sync_rests r c clock running rest = record { here = front_here c (after r c (ent
 commit_rests : (r : Scope) (c : Core) (e : ℕ) (b : Bool) → IsSound r c → IsAtRest c → IsAtRest (after r c (entry.Commit e b))
 commit_rests r c e b sound rest = record {
   here = front_here c (after r c (entry.Commit e b)) refl refl refl rest.here;
-  outs = λ o run. absurd (true≢false (sym o ∙ nat_lt-not (c.front.committed + 1) c.front.planned sound.near));
+  outs = λ o run. absurd (true≢false (sym o ∙ le-ltb (c.front.committed + 1) c.front.planned sound.near));
 }
 
 -- a task was claimed and is back: nobody has one
@@ -268,7 +265,7 @@ first_rests r s = by s.is_planned
         here kind.Reduce = same_here r.partitions true
         here kind.Out = refl
         here kind.Upkeep = refl
-    by false = record { here = here; outs = λ o run. absurd (true≢false (sym o ∙ nat_lt-not s.committed s.committed (omega arith))) }
+    by false = record { here = here; outs = λ o run. absurd (true≢false (sym o ∙ le-ltb s.committed s.committed (omega arith))) }
       where
         here : (k : Kind) → list_any is_away (tasks_of k (first_by false r s)) ≡ false
         here kind.Map = rest_here s.to

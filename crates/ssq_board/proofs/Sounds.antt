@@ -1,5 +1,5 @@
 -- What is so of every state that entries lead to.
-use Rattle.std.proofs.Common.{◌≡◌, ◌+◌, ◌≤◌, ◌<◌, ◌&&◌, not, nat_lt, ℕ, zero, suc, Bool, true, false, true≢false, List, [], ◌∷◌, map, length, set, replicate, Option, Some, None, if◌then◌else◌, sym, refl, ap, ◌∙◌, subst, inl, inr, arith}
+use Rattle.std.proofs.Common.{◌≡◌, ◌+◌, ◌≤◌, ◌<◌, ◌&&◌, not, nat_lt, ℕ, zero, suc, Bool, true, false, true≢false, List, [], ◌∷◌, map, length, set, replicate, Option, Some, None, if◌then◌else◌, sym, refl, ap, ◌∙◌, subst, inl, inr, arith, le-ltb, lt-ltb, ltb-true}
 use Rattle.std.specs.List.{list_all}
 use Rattle.std.proofs.lemmas.Bool.{cases_lt}
 use mathlib.Core.Option.{some, some-injective, some-ne-none}
@@ -18,14 +18,14 @@ use Rattle.ssq_board.specs.declared.front.Entry.TheVariants as entry
 use Rattle.ssq_board.specs.Core.{Scope, Core, next_ends, dealt, is_here, is_open, is_stopped, tasks_of, if_map, if_reduce, if_out, with_tasks, moved, with_front, is_of_epoch, worse_by, fault_at, fault_in, worse, due_of, due_stop, or_stop, due, May, stopped_front, version_front, after}
 use Rattle.ssq_board.specs.Shown.{Start, first_by, first, first_place, IsStart, IsSound}
 use Rattle.ssq_board.specs.Follows.{State, Leads}
-use Rattle.ssq_board.proofs.Lists.{set_length, replicate_length, map_length, dealt_length, next_length, nat_lt-not, nat_lt-less, nat_lt-is}
+use Rattle.ssq_board.proofs.Lists.{set_length, replicate_length, map_length, dealt_length, next_length}
 
 pub open_less : (c : Core) → is_open c ≡ true → c.front.committed < c.front.planned
-open_less c e = nat_lt-less c.front.committed c.front.planned e
+open_less c e = ltb-true c.front.committed c.front.planned e
 
 pub open_not : (c : Core) → is_open c ≡ false → c.front.planned ≤ c.front.committed
 open_not c e = elim (cases_lt c.front.committed c.front.planned) [
-  | inl less ↦ absurd (true≢false (sym (nat_lt-is c.front.committed c.front.planned less) ∙ e))
+  | inl less ↦ absurd (true≢false (sym (lt-ltb c.front.committed c.front.planned less) ∙ e))
   | inr le ↦ le
 ]
 
@@ -108,7 +108,7 @@ first_sound r s is = by s.is_planned
       maps = map_length _ s.to ∙ sym is.available;
       reduces = replicate_length r.partitions (first_place false);
       outs = omega arith;
-      out_there = λ h. absurd (true≢false (sym h ∙ nat_lt-not s.committed s.committed (omega arith)));
+      out_there = λ h. absurd (true≢false (sym h ∙ le-ltb s.committed s.committed (omega arith)));
       calm = λ run. first_calm false r s;
     }
 
@@ -263,7 +263,7 @@ step_sound r c (entry.Commit e due) m d = (let o = open_less c m.2 in record {
   maps = d.maps;
   reduces = d.reduces;
   outs = d.outs;
-  out_there = λ h. absurd (true≢false (sym h ∙ nat_lt-not (c.front.committed + 1) c.front.planned d.near));
+  out_there = λ h. absurd (true≢false (sym h ∙ le-ltb (c.front.committed + 1) c.front.planned d.near));
   calm = λ run k. front_calm c (after r c (entry.Commit e due)).front k (d.calm m.0 k);
 })
 step_sound r c (entry.Upkeep p v) m d = d

@@ -1,7 +1,9 @@
 -- Snapshots that are handed out and come back, and files that are removed: the machine's events of them, and that the desk still shows the
 -- machine's.
-use Rattle.std.proofs.Common.{◌≡◌, ◌⊎◌, ◌<◌, ◌≤◌, ◌+◌, ◌++◌, ◌==◌, ◌&&◌, ◌||◌, not, nat_lt, ℕ, Bool, true, false, true≢false, List, [], ◌∷◌, Option, Some, None, if◌then◌else◌, sym, refl, ap, ◌∙◌, subst, inl, inr, arith}
+use Rattle.std.proofs.Common.{◌≡◌, ◌⊎◌, ◌<◌, ◌≤◌, ◌+◌, ◌++◌, ◌==◌, ◌&&◌, ◌||◌, not, nat_lt, ℕ, Bool, true, false, true≢false, List, [], ◌∷◌, Option, Some, None, if◌then◌else◌, sym, refl, ap, ◌∙◌, subst, inl, inr, arith, ltb-true}
 use Rattle.std.proofs.lemmas.Bool.Decides.{nat_tests}
+use Rattle.std.proofs.lemmas.Bool.{or_left, or_right, and_left, and_parts}
+use borrow.Author.Tests.{not-true}
 use mathlib.Core.Option.{some}
 use Rattle.ssq_outside.specs.declared.name.Name.{Name}
 use Rattle.ssq_outside.specs.declared.name.Name.TheVariants as name
@@ -30,7 +32,7 @@ use Rattle.ssq_board.proofs.Sounds.{some_no}
 use Rattle.ssq_board.proofs.Placing.{placed_at, placed_twice, same_at, files_shown, shows_else, stopped_shows}
 use Rattle.ssq_board.proofs.Planning.{runs_on, goes_on}
 use Rattle.ssq_board.proofs.Leading.{elapses_same, owes_none, not_over, went, tried, report_stops, Follows}
-use Rattle.ssq_board.proofs.Keeping.{shelves_stopped, no_upkeep, acknowledged_few, added_names, among_both, or_left, or_right, up_to_is, below_of}
+use Rattle.ssq_board.proofs.Keeping.{shelves_stopped, no_upkeep, acknowledged_few, added_names, among_both, up_to_is}
 
 out_waits : machine.out ≡ machine.waits → ⊥
 out_waits e = cc
@@ -44,10 +46,6 @@ back_failed b bytes e = cc
 upkeep_reduce : {A : Type 0} → kind.Upkeep ≡ kind.Reduce → A
 upkeep_reduce e = absurd (cc)
 
-and_first : (a b : Bool) → a ≡ false → (a && b) ≡ false
-and_first true b e = absurd (true≢false e)
-and_first false b e = refl
-
 other_kind : (k : Kind) → (k ≡ kind.Upkeep → ⊥) → same_kind k kind.Upkeep ≡ false
 other_kind kind.Map other = refl
 other_kind kind.Reduce other = refl
@@ -55,7 +53,7 @@ other_kind kind.Out other = refl
 other_kind kind.Upkeep other = absurd (other refl)
 
 other_task : (t : TaskId) (p v : ℕ) → (t.kind ≡ kind.Upkeep → ⊥) → same_task t (upkeep p v) ≡ false
-other_task t p v other = and_first (same_kind t.kind kind.Upkeep) (t.epoch == v && t.number == p) (other_kind t.kind other)
+other_task t p v other = and_left (same_kind t.kind kind.Upkeep) (t.epoch == v && t.number == p) (other_kind t.kind other)
 
 -- tasks of snapshots are the same as their names are
 turned : (p v i w : ℕ) → (w == v && i == p) ≡ (p == i && v == w)
@@ -145,7 +143,7 @@ module _ (job : Job) (r : Scope) (next : Cuts → ℕ → Bool) (terms : Terms j
   early_of c d p v s out = by (nat_lt v c.front.planned) refl
     where
       by : (b : Bool) → nat_lt v c.front.planned ≡ b → v < c.front.planned
-      by true h = below_of v c.front.planned h
+      by true h = ltb-true v c.front.planned h
       by false h = absurd (out_waits (sym out ∙ s.later (upkeep p v) (grind (arith, nat_tests))))
 
   fresh_of : (c : Core) (d : Desk) (p v : ℕ) → Shows job r next terms c d → d.tasks (upkeep p v) ≡ machine.out → v ≡ c.front.committed → c.front.fresh ≡ true
@@ -174,14 +172,6 @@ module _ (p v : ℕ) (names : List Name) where
 and_false : (a : Bool) → (a && false) ≡ false
 and_false true = refl
 and_false false = refl
-
-both_true : (a b : Bool) → (a && b) ≡ true → (a ≡ true) × (b ≡ true)
-both_true true b h = (refl, h)
-both_true false b h = absurd (true≢false (sym h))
-
-not_is : (b : Bool) → not b ≡ true → b ≡ false
-not_is true h = absurd (true≢false (sym h))
-not_is false h = refl
 
 swapped : (a b : Bool) → (a && b) ≡ (b && a)
 swapped true true = refl
@@ -227,8 +217,8 @@ stop_why (Some g) f = inl refl
 module _ (c : Core) (d : Desk) (k : Shelf) (p v : ℕ) (held : ShowsShelf c k d) (there : machine.Place) where
   still_out : (i w : ℕ) → is_among (without (name.Snapshot p v) k.claimed) (name.Snapshot i w) ≡ true → (placed (upkeep p v) there d).tasks (upkeep i w) ≡ machine.out
   still_out i w is =
-      let parts = both_true (is_among k.claimed (name.Snapshot i w)) (not (same_name (name.Snapshot i w) (name.Snapshot p v))) (sym (without_is (name.Snapshot p v) (name.Snapshot i w) k.claimed) ∙ is) in
-      ap (λ (b : Bool). if b then there else d.tasks (upkeep i w)) (swapped (w == v) (i == p) ∙ not_is (i == p && w == v) parts.1) ∙ held.claimed i w parts.0
+      let parts = and_parts (is_among k.claimed (name.Snapshot i w)) (not (same_name (name.Snapshot i w) (name.Snapshot p v))) (sym (without_is (name.Snapshot p v) (name.Snapshot i w) k.claimed) ∙ is) in
+      ap (λ (b : Bool). if b then there else d.tasks (upkeep i w)) (swapped (w == v) (i == p) ∙ not-true (i == p && w == v) parts.1) ∙ held.claimed i w parts.0
 
   back_shelf : (o : Option Cause) → (o ≡ None → ⊥) → Shelves (last_of c) c.front.committed o (unclaimed (name.Snapshot p v) k) (placed (upkeep p v) there d)
   back_shelf o over = record {
@@ -415,7 +405,7 @@ module _ (told : Type 0) (job : Job) (r : Scope) (next : Cuts → ℕ → Bool) 
 
     is_committed : v < c.front.committed
     is_committed =
-        let less = below_of v (acknowledged_in c) (sym (up_to_is (acknowledged_in c) v) ∙ due.acknowledged) in
+        let less = ltb-true v (acknowledged_in c) (sym (up_to_is (acknowledged_in c) v) ∙ due.acknowledged) in
         let most = acknowledged_few c in
         omega (arith, less, most)
 
@@ -622,7 +612,7 @@ module _ (told : Type 0) (job : Job) (r : Scope) (next : Cuts → ℕ → Bool) 
 
     is_old : (v : ℕ) → v ≤ goes.may.s → v < c.front.committed
     is_old v most =
-        let less = below_of (goes.may.s + 20) (acknowledged_in c) (sym (up_to_is (acknowledged_in c) (goes.may.s + 20)) ∙ goes.may.acknowledged) in
+        let less = ltb-true (goes.may.s + 20) (acknowledged_in c) (sym (up_to_is (acknowledged_in c) (goes.may.s + 20)) ∙ goes.may.acknowledged) in
         let few = acknowledged_few c in
         omega (arith, most, less, few)
 

@@ -1,5 +1,5 @@
 -- A version that comes back: the machine's events of it, and that the desk still shows the machine's.
-use Rattle.std.proofs.Common.{◌≡◌, ◌+◌, ◌&&◌, ℕ, Bool, true, false, true≢false, List, [], ◌∷◌, Option, Some, None, sym, refl, ap, ◌∙◌, subst, inl, inr}
+use Rattle.std.proofs.Common.{◌≡◌, ◌+◌, ◌&&◌, ℕ, Bool, true, false, true≢false, List, [], ◌∷◌, Option, Some, None, sym, refl, ap, ◌∙◌, subst, inl, inr, ltb-true}
 use mathlib.Core.Option.{some}
 use Rattle.ssq_outside.specs.declared.name.Name.{Name}
 use Rattle.ssq_outside.specs.declared.name.Name.TheVariants as name
@@ -20,7 +20,6 @@ use Rattle.ssq_board.specs.Core.{Scope, Core, is_open, at, moved, with_front, st
 use Rattle.ssq_board.specs.Follows.{Terms, Goes, Tries, Moves, publishes_by, BringsVersion, IsRight, IsDone, is_snapshot, Shows, Shelves, ShowsShelf, life_of, shown}
 use Rattle.ssq_board.specs.Shelf.{Shelf, last_of, version_on, shelf_by}
 use Rattle.ssq_board.proofs.Keeping.{shelves_placed, shelves_stored, shelves_stopped, shelves_delta, open_last, or_stop_none}
-use Rattle.ssq_board.proofs.Lists.{nat_lt-less}
 use Rattle.ssq_board.proofs.Sounds.{due_none}
 use Rattle.ssq_board.proofs.Placing.{placed_at, placed_twice, same_at, shows_else, HasBrought, placed_shows}
 use Rattle.ssq_board.proofs.Planning.{runs_on, there_still, there_now}
@@ -116,7 +115,7 @@ module _ (told : Type 0) (job : Job) (r : Scope) (next : Cuts → ℕ → Bool) 
       seals disk = (
         nothing,
         Some sealed_desk,
-        (d, sealed_desk, refl, refl, ((job.course d.cuts).delta p e, is_out, ((job.course d.cuts).state p (e + 1), nat_lt-less p (job.course d.cuts).keeping right.1, (λ same. (refl, refl)), refl), refl, owes_none c.front.stop)),
+        (d, sealed_desk, refl, refl, ((job.course d.cuts).delta p e, is_out, ((job.course d.cuts).state p (e + 1), ltb-true p (job.course d.cuts).keeping right.1, (λ same. (refl, refl)), refl), refl, owes_none c.front.stop)),
         (λ t. (elapses_same disk (Allows nothing (had_now disk)), refl, tt)),
         refl,
       )

@@ -9,6 +9,7 @@ use Rattle.std.proofs.lemmas.List.Elements.{All-nil, All-cons}
 use Rattle.std.proofs.lemmas.List.Folds.{list_any-append}
 use Rattle.std.proofs.lemmas.List.{length-map}
 use Rattle.std.proofs.lemmas.Option.{slice_get_cases}
+use Rattle.std.proofs.lemmas.Bool.{false_from_ne_true, true_from_ne_false}
 use Rattle.ssq_value.specs.declared.column.ColType.{ColType}
 use Rattle.ssq_value.specs.declared.column.ColType.TheVariants as type
 use Rattle.ssq_ast.specs.declared.expr.Expr.{Expr}
@@ -60,19 +61,11 @@ right_none P Q none c at q = none c at (inr q)
 kept : (own : Cause) (at : ℕ) (Broken : Type 0) → AreNone (Rule own at Broken) → Broken → ⊥
 kept own at Broken none broken = none own at (refl, refl, broken)
 
-is_false : (b : Bool) → (b ≡ true → ⊥) → b ≡ false
-is_false true never = absurd (never refl)
-is_false false never = refl
-
-is_true : (b : Bool) → (b ≡ false → ⊥) → b ≡ true
-is_true true never = refl
-is_true false never = absurd (never refl)
-
 unbroken : (own : Cause) (at : ℕ) (b : Bool) → AreNone (Rule own at (b ≡ true)) → b ≡ false
-unbroken own at b none = is_false b (kept own at (b ≡ true) none)
+unbroken own at b none = false_from_ne_true b (kept own at (b ≡ true) none)
 
 holding : (own : Cause) (at : ℕ) (b : Bool) → AreNone (Rule own at (b ≡ false)) → b ≡ true
-holding own at b none = is_true b (kept own at (b ≡ false) none)
+holding own at b none = true_from_ne_false b (kept own at (b ≡ false) none)
 
 where_none : {A : Type 0} (F : A → Faults) (P : A → Type 0) → ((x : A) → AreNone (F x) → P x) → (o : Option A) → AreNone (Where F o) → IfSome o P
 where_none F P each None none = tt

@@ -1,11 +1,11 @@
 -- A desk is whole where its round begins.
-use Rattle.std.proofs.Common.{◌≡◌, ◌<◌, ◌≤◌, ◌+◌, [], ◌∷◌, ℕ, Bool, true, false, true≢false, List, length, get_or, Option, Some, None, inl, inr, refl, sym, ap, ◌∙◌, subst, arith}
+use Rattle.std.proofs.Common.{◌≡◌, ◌<◌, ◌≤◌, ◌+◌, [], ◌∷◌, ℕ, Bool, true, false, true≢false, List, length, get_or, Option, Some, None, inl, inr, refl, sym, ap, ◌∙◌, subst, arith, le-ltb}
 use Rattle.std.specs.Prelude.{All, IsSomeAnd, is_some, slice_get, nat_lt, vec_capacity}
 use Rattle.std.specs.Global.{Vec}
 use Rattle.std.specs.Vec.{with_items}
 use Rattle.std.proofs.lemmas.List.{length-map, get_or-map, with_items_is}
 use Rattle.std.proofs.lemmas.Bool.{ltb-true}
-use Rattle.std.proofs.lemmas.Option.{same_Some}
+use Rattle.std.proofs.lemmas.Option.{same_Some, get_or_from_slice_get}
 use Rattle.ssq_outside.specs.History.{History}
 use mathlib.Core.Option.{some, some-ne-none}
 use lib.ListN.{get_elem?}
@@ -25,7 +25,7 @@ use Rattle.ssq_board.specs.declared.front.Place.TheVariants as place
 use Rattle.ssq_board.specs.declared.front.Entry.TheVariants as entry
 use Rattle.ssq_board.specs.Core.{Scope}
 use Rattle.ssq_board.specs.Shown.{Start, first_place, planned_by}
-use Rattle.ssq_board.proofs.Lists.{at_length, replicate_at, nat_lt-not}
+use Rattle.ssq_board.proofs.Lists.{at_length, replicate_at}
 use Rattle.ssq_ledger.specs.Shown.{Shown, HasRisen, did}
 use Rattle.ssq_desk.specs.declared.desk.Load.{Load}
 use Rattle.ssq_desk.specs.declared.desk.Share.{Share}
@@ -51,7 +51,7 @@ use Rattle.ssq_desk.specs.Closing.{AreTold}
 use Rattle.ssq_desk.specs.Whole.{IsWhole, IsKept, ArePlans}
 use Rattle.ssq_desk.proofs.Firsts.{IsFirstMade, opened_holds}
 use Rattle.ssq_desk.proofs.Settling.{risen_stops, risen_no_log}
-use Rattle.ssq_desk.proofs.Beginnings.{from_count, plans_are, times_are, same_cuts, part_logs_count, part_log_at, own_lines, map_at, slice_or, slice_below}
+use Rattle.ssq_desk.proofs.Beginnings.{from_count, plans_are, times_are, same_cuts, part_logs_count, part_log_at, own_lines, map_at, slice_below}
 use Rattle.ssq_desk.proofs.Planned.{at_get}
 
 -- what a desk holds beside its ledger where its round begins
@@ -110,7 +110,7 @@ module _ {D L S F : Type 0} (stores logs : Type 0) (history : D → History) (li
         let at : get_or made.begun.parts.items i (end_at part 0) ≡ end_at part 0 =
         ap (λ (ends : Ends). get_or ends i (end_at part 0)) (parts_are lines round is m)
         ∙ get_or-map (λ (q : Part). end_at q 0) (parts_in s) i part (end_at part 0) (slice_below (parts_in s) i part there)
-        ∙ ap (λ (q : Part). end_at q 0) (slice_or (parts_in s) i part part there) in record {
+        ∙ ap (λ (q : Part). end_at q 0) (get_or_from_slice_get (parts_in s) i part part there) in record {
           stream = sym (ap (λ (e : PartEnd). e.stream) at) ∙ p.stream_is (end_at part 0);
           number = sym (ap (λ (e : PartEnd). e.part) at) ∙ p.part_is (end_at part 0);
           log = λ back. (
@@ -189,7 +189,7 @@ module _ {D L S F : Type 0} (stores logs : Type 0) (history : D → History) (li
         let at = held_at round.opened.stores closings p own (subst (λ l. get_elem? l p ≡ some own) held_is here) in
         let less = slice_below round.opened.stores p at.store at.store_is in
         let numbers = is.stores.each p at.store (omega (arith, less, is.stores.many)) in
-        let same : get_or round.opened.stores p at.store ≡ at.store = slice_or round.opened.stores p at.store at.store at.store_is in
+        let same : get_or round.opened.stores p at.store ≡ at.store = get_or_from_slice_get round.opened.stores p at.store at.store at.store_is in
         subst (λ (o : Option Held). IsSomeAnd o (IsHeldOf owned s cuts start.committed p)) (sym at.own_is) (record {
           partition_is = ap (λ (x : Store). x.partition) (sym same) ∙ numbers.partition;
           version = ap (λ (x : Store). count_to x.version) (sym same) ∙ numbers.version;
@@ -236,7 +236,7 @@ module _ {D L S F : Type 0} (stores logs : Type 0) (history : D → History) (li
 
         no_rest : (b : Bool) → nat_lt start.committed (planned_by b start.committed) ≡ true → place.Rests ≡ first_place b → ⊥
         no_rest true opened e = cc
-        no_rest false opened e = true≢false (sym opened ∙ nat_lt-not start.committed start.committed (omega arith))
+        no_rest false opened e = true≢false (sym opened ∙ le-ltb start.committed start.committed (omega arith))
 
         first_key : (b : Bool) (p : ℕ) (share : Share S) → share.key ≡ None → IsKeyOf owned s cuts start.committed p (first_place b) share.key
         first_key true p share none = none

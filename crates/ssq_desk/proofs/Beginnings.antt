@@ -5,6 +5,7 @@ use Rattle.std.specs.List.{cons_option, list_all, zip}
 use Rattle.std.proofs.lemmas.Bool.{eq-eqb, eqb-true, ne_eqb, cases_lt, ltb-true}
 use Rattle.std.proofs.lemmas.List.{append-nil, length-map, get_or_default}
 use Rattle.std.proofs.lemmas.List.Elements.{All-nil, All-cons, All-head, All-tail}
+use Rattle.std.proofs.lemmas.Option.{slice_get-get_or}
 use Rattle.ssq_outside.specs.History.{History, files_now}
 use mathlib.Core.Option.{some, some-injective, some-ne-none}
 use lib.ListN.{get_elem?}
@@ -66,15 +67,6 @@ own_lines [] lines i part own there here = absurd (true≢false (sym (ap is_some
 own_lines (count ∷ counts) lines i part own there here = lines_from 0 0 count counts lines i part own there here
 
 module _ {A : Type 0} where
-  pub slice_or : (l : List A) (i : ℕ) (a d : A) → slice_get l i ≡ Some a → get_or l i d ≡ a
-  slice_or [] i a d e = absurd (true≢false (sym (ap is_some e)))
-  slice_or (x ∷ l) zero a d e = ap (λ o. or d o) e
-    where
-      or : A → Option A → A
-      or d None = d
-      or d (Some a) = a
-  slice_or (x ∷ l) (suc i) a d e = slice_or l i a d e
-
   pub slice_below : (l : List A) (i : ℕ) (a : A) → slice_get l i ≡ Some a → i < length l
   slice_below [] i a e = absurd (true≢false (sym (ap is_some e)))
   slice_below (x ∷ l) zero a e = omega arith
@@ -250,11 +242,6 @@ module _ (s : Setting) (found : Opened) (r : Scope) (is : IsRound s found r) whe
       subst (λ (n : ℕ). (get_or found.plans e default).ends ≡ cut_of (first_ends s) found.plans n) (sym (add-one e))
       (ap (λ (p : Plan). p.ends) (get_or_default found.plans e default (no_plan (first_ends s)) less))
 
-slice_is : {A : Type 0} (l : List A) (i : ℕ) (default : A) → i < length l → slice_get l i ≡ Some (get_or l i default)
-slice_is [] i default less = absurd (omega (arith, less))
-slice_is (x ∷ l) zero default less = refl
-slice_is (x ∷ l) (suc i) default less = slice_is l i default (omega (arith, less))
-
 module _ (owned : Type 0) (s : Setting) (found : Opened) (r : Scope) (is : IsRound s found r) {start : History} (own : owned → IsOwned s found r start) where
   pub terms : TasksHaveTerms → owned → Terms (job_of s) r (due_at s)
   terms have t = (let o = own t in (have s s.job.bound o.asks o.lens r o.setting o.lines o.scope).0)
@@ -296,7 +283,7 @@ module _ (owned : Type 0) (s : Setting) (found : Opened) (r : Scope) (is : IsRou
   mark_is t zero le = refl
   mark_is t (suc n) le =
       let plan : Plan = plan_of (course_of s (cut_of (first_ends s) found.plans)) n in
-      ap (option_and_then (λ (plan : Plan). plan.watermark)) (slice_is found.plans n plan (omega (arith, le)))
+      ap (option_and_then (λ (plan : Plan). plan.watermark)) (slice_get-get_or found.plans n plan (omega (arith, le)))
       ∙ ap (λ (plan : Plan). plan.watermark) ((own t).jobs.plans n plan (omega (arith, le)) ∙ ap (λ (cuts : Cuts). plan_of (course_of s cuts) n) (same_cuts t))
 
   -- where no epoch is planned beyond the committed ones, what is due on what was opened is what is due by its cuts

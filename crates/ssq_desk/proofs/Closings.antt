@@ -1,5 +1,5 @@
 -- What a desk tells of the epoch that runs, and what it gives back when it ends.
-use Rattle.std.proofs.Common.{take, add-one, ltb-false, ◌≡◌, ◌⊎◌, ◌<◌, ◌≤◌, ◌+◌, ◌-◌, ◌^◌, ◌||◌, [], ◌∷◌, ℕ, ℤ, zero, suc, Bool, true, false, true≢false, List, length, map, get_or, nat_lt, Option, Some, None, refl, sym, ap, ◌∙◌, subst, inr, arith, ext_get_or}
+use Rattle.std.proofs.Common.{take, add-one, ltb-false, ◌≡◌, ◌⊎◌, ◌<◌, ◌≤◌, ◌+◌, ◌-◌, ◌^◌, ◌||◌, [], ◌∷◌, ℕ, ℤ, zero, suc, Bool, true, false, true≢false, List, length, map, get_or, nat_lt, Option, Some, None, refl, sym, ap, ◌∙◌, subst, inr, arith, ext_get_or, le-ltb}
 use Rattle.std.specs.Prelude.{◌≢◌, All, IsSome, MatchOption, if◌then◌else◌, is_some, slice_get}
 use Rattle.std.specs.Option.{ForSome}
 use Rattle.std.specs.List.{sum_by, list_any, AllZip}
@@ -44,7 +44,7 @@ use Rattle.ssq_board.specs.Rounds.{is_away}
 use Rattle.ssq_board.specs.Shelf.{acknowledged_in}
 use Rattle.ssq_board.specs.Shown.{Start, first, planned_by}
 use Rattle.ssq_board.specs.Follows.{State, Leads}
-use Rattle.ssq_board.proofs.Lists.{at_length, there_at, all_fine, nat_lt-not}
+use Rattle.ssq_board.proofs.Lists.{at_length, there_at, all_fine}
 use Rattle.ssq_board.proofs.Readies.{commit_may, over_is}
 use Rattle.ssq_board.proofs.Sounds.{open_less}
 use Rattle.ssq_ledger.specs.Shown.{Shown, IsLegal, IsInOrder, state, first_state, cuts_of, shelf_of}
@@ -300,7 +300,7 @@ module _ {D L S F : Type 0} (stores logs : Type 0) (history : D → History) (li
   over_left : ready_of shown.scope shown.core ≡ ready.Over → IsLeft owned s cuts shown.core.front.committed load.held.items
   over_left over =
       let o = over_is shown.scope shown.core over in
-      let closed : is_open shown.core ≡ false = nat_lt-not shown.core.front.committed shown.core.front.planned o.1 in
+      let closed : is_open shown.core ≡ false = le-ltb shown.core.front.committed shown.core.front.planned o.1 in
       let many = whole.holds.keeping in
       let most = keeping_most s.job.bound.shape s.job.partitions in
       let reduces = order.sound.reduces in

@@ -1,5 +1,5 @@
 -- The lines of the planned epochs end where the cuts say.
-use Rattle.std.proofs.Common.{◌≡◌, ◌≤◌, ◌+◌, ℕ, zero, suc, Bool, true, false, List, [], ◌∷◌, Option, length, get_or, nat_lt, rules, refl, sym, ap, ◌∙◌, subst, arith}
+use Rattle.std.proofs.Common.{◌≡◌, ◌≤◌, ◌+◌, ℕ, zero, suc, Bool, true, false, List, [], ◌∷◌, Option, length, get_or, nat_lt, rules, refl, sym, ap, ◌∙◌, subst, arith, lt-ltb}
 use Rattle.std.specs.Prelude.{◌==◌, if◌then◌else◌}
 use Rattle.std.specs.List.{list_all, zip}
 use Rattle.std.proofs.lemmas.Bool.{eq-eqb, le-leb}
@@ -13,7 +13,7 @@ use Rattle.ssq_board.specs.declared.front.Entry.TheVariants as entry
 use Rattle.ssq_board.specs.Core.{Scope, Core, after, cuts_by, next_end, next_part, next_ends}
 use Rattle.ssq_board.specs.Shown.{planned_by}
 use Rattle.ssq_board.specs.Follows.{State, Leads}
-use Rattle.ssq_board.proofs.Lists.{nat_lt-is, next_length}
+use Rattle.ssq_board.proofs.Lists.{next_length}
 use Rattle.ssq_terms.proofs.Dealing.{next_between}
 
 -- where the planned epochs end is what the desk knows
@@ -22,7 +22,7 @@ AreEnds cuts c = cuts c.front.planned ≡ c.ends
 
 step_ends : (r : Scope) (cuts : Cuts) (c : Core) (e : Entry) → AreEnds cuts c → AreEnds (cuts_by r cuts c e) (after r c e)
 step_ends r cuts c (entry.Plan e) is =
-    ap (λ (b : Bool). if b then next_ends r.cap c.ends r.available else cuts (c.front.planned + 1)) (nat_lt-is c.front.planned (c.front.planned + 1) (omega arith))
+    ap (λ (b : Bool). if b then next_ends r.cap c.ends r.available else cuts (c.front.planned + 1)) (lt-ltb c.front.planned (c.front.planned + 1) (omega arith))
 step_ends r cuts c (entry.Claim t) is = is
 step_ends r cuts c (entry.Report t f) is = is
 step_ends r cuts c (entry.Version t) is = is

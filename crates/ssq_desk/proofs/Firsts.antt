@@ -1,5 +1,5 @@
 -- What a desk holds where a round begins.
-use Rattle.std.proofs.Common.{◌≡◌, ◌<◌, ◌≤◌, ◌+◌, ℕ, ℤ, Bool, true, false, true≢false, List, length, get_or, nat_lt, Option, Some, None, inl, inr, refl, sym, ap, ◌∙◌, subst, arith}
+use Rattle.std.proofs.Common.{◌≡◌, ◌<◌, ◌≤◌, ◌+◌, ℕ, ℤ, Bool, true, false, true≢false, List, length, get_or, nat_lt, Option, Some, None, inl, inr, refl, sym, ap, ◌∙◌, subst, arith, le-ltb}
 use Rattle.std.specs.Prelude.{All, slice_get, is_some, IsSomeAnd}
 use Rattle.ssq_board.specs.declared.front.Place.{Place}
 use mathlib.Core.Option.{some}
@@ -12,7 +12,7 @@ use Rattle.ssq_board.specs.declared.front.Cause.{Cause}
 use Rattle.ssq_board.specs.declared.front.Place.TheVariants as place
 use Rattle.ssq_board.specs.Core.{Scope}
 use Rattle.ssq_board.specs.Shown.{Start, first, first_by, first_place, planned_by}
-use Rattle.ssq_board.proofs.Lists.{at_length, dealt_at, replicate_at, nat_lt-not}
+use Rattle.ssq_board.proofs.Lists.{at_length, dealt_at, replicate_at}
 use Rattle.ssq_desk.specs.declared.desk.PartLog.{PartLog}
 use Rattle.ssq_desk.specs.declared.desk.Share.{Share}
 use Rattle.ssq_desk.specs.declared.desk.OutWork.{OutWork}
@@ -101,7 +101,7 @@ module _ {L S F : Type 0} (reads owned : Type 0) (lines : L → List Line) (avai
 
       planned_if : (n : ℕ) (b : Bool) → nat_lt n (planned_by b n) ≡ true → b ≡ true
       planned_if n true opened = refl
-      planned_if n false opened = absurd (true≢false (sym opened ∙ nat_lt-not n n (omega arith)))
+      planned_if n false opened = absurd (true≢false (sym opened ∙ le-ltb n n (omega arith)))
 
   -- what a desk holds where its round begins on what was opened
   pub opened_holds : (out : Option (OutWork S F)) (times : List (Option ℤ)) (pending : Option (Pending F)) → AreSeen owned s cuts start.committed times

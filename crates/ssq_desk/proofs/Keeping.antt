@@ -1,7 +1,8 @@
 -- What partitions keep, from epoch to epoch.
-use Rattle.std.proofs.Common.{◌≡◌, ◌<◌, ◌+◌, ℕ, Bool, true, false, true≢false, List, Option, Some, None, inl, inr, refl, sym}
+use Rattle.std.proofs.Common.{◌≡◌, ◌<◌, ◌+◌, ℕ, true, false, true≢false, List, Option, Some, None, inl, inr, refl, sym}
 use Rattle.std.specs.Prelude.{not, IsSomeAnd}
 use Rattle.std.specs.List.{list_all, list_any}
+use borrow.Author.Tests.{not-false}
 use Rattle.ssq_task.specs.declared.partition.Held.{Held}
 use Rattle.ssq_core.specs.Course.{Cuts}
 use Rattle.ssq_course.specs.Setting.{Setting}
@@ -14,10 +15,6 @@ use Rattle.ssq_desk.specs.Contents.{IsStageOf, IsHeldOf, IsHeldAt, is_gone, keep
 use Rattle.ssq_desk.specs.Handing.{state_with}
 use Rattle.ssq_desk.specs.Tasks.{IsStateFor}
 
-not_false : (b : Bool) → not b ≡ false → b ≡ true
-not_false true e = refl
-not_false false e = absurd (true≢false e)
-
 -- where a commit is next all reduce tasks are back
 tasks_fine : (c : Core) → ready_tasks c ≡ ready.Commit → list_all is_fine c.reduces ≡ true
 tasks_fine c e =
@@ -25,7 +22,7 @@ tasks_fine c e =
     let b = past (list_any is_waiting c.maps) _ _ _ a.1 (λ x. cc) in
     let d = past (not (list_all is_fine c.maps)) _ _ _ b.1 (λ x. cc) in
     let f = past (list_any is_waiting c.reduces) _ _ _ d.1 (λ x. cc) in
-    let g = past (not (list_all is_fine c.reduces)) _ _ _ f.1 (λ x. cc) in not_false (list_all is_fine c.reduces) g.0
+    let g = past (not (list_all is_fine c.reduces)) _ _ _ f.1 (λ x. cc) in not-false (list_all is_fine c.reduces) g.0
 
 pub commit_fine : (r : Scope) (c : Core) → ready_of r c ≡ ready.Commit → list_all is_fine c.reduces ≡ true
 commit_fine r c e =

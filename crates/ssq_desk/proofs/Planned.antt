@@ -1,5 +1,5 @@
 -- What a desk holds once the next epoch is planned.
-use Rattle.std.proofs.Common.{rules, ◌≡◌, ◌<◌, ◌≤◌, ◌+◌, ℕ, ℤ, zero, suc, nat_lt, Bool, true, false, true≢false, List, [], ◌∷◌, map, length, get_or, Option, Some, None, inl, inr, refl, sym, ap, ◌∙◌, subst, arith}
+use Rattle.std.proofs.Common.{rules, ◌≡◌, ◌<◌, ◌≤◌, ◌+◌, ℕ, ℤ, zero, suc, nat_lt, Bool, true, false, true≢false, List, [], ◌∷◌, map, length, get_or, Option, Some, None, inl, inr, refl, sym, ap, ◌∙◌, subst, arith, le-ltb, lt-ltb}
 use Rattle.std.specs.Prelude.{slice_get, if◌then◌else◌, is_some, IsSomeAnd}
 use Rattle.std.specs.List.{list_all}
 use Rattle.std.proofs.lemmas.List.{get_or-map, length-map}
@@ -19,7 +19,7 @@ use Rattle.ssq_board.specs.declared.front.Place.{Place}
 use Rattle.ssq_board.specs.declared.front.Place.TheVariants as place
 use Rattle.ssq_board.specs.declared.front.Entry.TheVariants as entry
 use Rattle.ssq_board.specs.Core.{Scope, Core, after, dealt, extended, has_line_at, is_fine, next_ends}
-use Rattle.ssq_board.proofs.Lists.{at_length, there_at, all_fine, const_at, dealt_at, nat_lt-not, nat_lt-is}
+use Rattle.ssq_board.proofs.Lists.{at_length, there_at, all_fine, const_at, dealt_at}
 use Rattle.ssq_desk.specs.declared.desk.PartLog.{PartLog}
 use Rattle.ssq_desk.specs.declared.desk.Share.{Share}
 use Rattle.ssq_desk.specs.declared.desk.OutWork.{OutWork}
@@ -145,14 +145,14 @@ module _ {L S F : Type 0} (reads owned : Type 0) (lines : L → List Line) (avai
 
   same_cuts : AreSameUpTo cuts then_cuts c.front.committed
   unfolding then_cuts
-  same_cuts e le = sym (ap (λ (b : Bool). if b then next else cuts e) (nat_lt-not c.front.planned e (omega (arith, le, between.closed))))
+  same_cuts e le = sym (ap (λ (b : Bool). if b then next else cuts e) (le-ltb c.front.planned e (omega (arith, le, between.closed))))
 
   ends_are : then_cuts c.front.committed ≡ c.ends
   ends_are = sym (same_cuts c.front.committed (omega arith)) ∙ ap cuts between.closed ∙ between.ends
 
   next_are : then_cuts (c.front.committed + 1) ≡ next
   unfolding then_cuts
-  next_are = ap (λ (b : Bool). if b then next else cuts (c.front.committed + 1)) (nat_lt-is c.front.planned (c.front.committed + 1) (omega (arith, between.closed)))
+  next_are = ap (λ (b : Bool). if b then next else cuts (c.front.committed + 1)) (lt-ltb c.front.planned (c.front.committed + 1) (omega (arith, between.closed)))
 
   -- what the desk has of a part, as it was
   begun_of : (i : ℕ) (part_log : PartLog L) → get_elem? news i ≡ some part_log → i < length olds
@@ -238,7 +238,7 @@ module _ {L S F : Type 0} (reads owned : Type 0) (lines : L → List Line) (avai
           let back = fine_not_gone placed.0 (all_fine is_fine c.reduces p placed.0 between.reduced placed.1) in
           let was = holds.kept between.running p placed.0 own placed.1 mine in
           held_stays owned s cuts then_cuts c.front.committed same_cuts p own
-          (between_held owned s cuts c.front.committed p placed.0 own back (subst (λ (b : Bool). IsHeldAt owned s cuts b c.front.committed p placed.0 own) (nat_lt-not c.front.committed c.front.planned (omega (arith, between.closed))) was))
+          (between_held owned s cuts c.front.committed p placed.0 own back (subst (λ (b : Bool). IsHeldAt owned s cuts b c.front.committed p placed.0 own) (le-ltb c.front.committed c.front.planned (omega (arith, between.closed))) was))
 
       by_place : (p : ℕ) (own : Option Held) (at : Place) → at ≡ place.Waits → IsSomeAnd own (IsHeldOf owned s then_cuts c.front.committed p)
           → IsHeldAt owned s then_cuts (nat_lt c.front.committed (c.front.planned + 1)) c.front.committed p at own

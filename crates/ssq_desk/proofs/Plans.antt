@@ -1,5 +1,5 @@
 -- A desk is whole once the next epoch is planned.
-use Rattle.std.proofs.Common.{◌≡◌, ◌<◌, ◌≤◌, ◌+◌, ◌++◌, [], ◌∷◌, ℕ, ℤ, zero, suc, Bool, true≢false, List, length, length-append, get_or, Option, Some, None, inl, inr, refl, sym, ap, ◌∙◌, subst, arith}
+use Rattle.std.proofs.Common.{◌≡◌, ◌<◌, ◌≤◌, ◌+◌, ◌++◌, [], ◌∷◌, ℕ, ℤ, zero, suc, Bool, true≢false, List, length, length-append, get_or, Option, Some, None, inl, inr, refl, sym, ap, ◌∙◌, subst, arith, le-ltb, lt-ltb}
 use Rattle.std.specs.Prelude.{IfSome, IsTrue, if◌then◌else◌, is_some, vec_capacity}
 use Rattle.std.specs.Option.{ForSome}
 use Rattle.std.proofs.lemmas.List.{append_assoc}
@@ -21,7 +21,6 @@ use Rattle.ssq_board.specs.declared.front.Entry.TheVariants as entry
 use Rattle.ssq_board.specs.declared.front.Ready.TheVariants as ready
 use Rattle.ssq_board.specs.Core.{Scope, Core, after, after_all, cuts_by, extended, next_ends, ready_of}
 use Rattle.ssq_board.specs.Shown.{first}
-use Rattle.ssq_board.proofs.Lists.{nat_lt-not, nat_lt-is}
 use Rattle.ssq_ledger.specs.Shown.{Shown, IsLegal, IsInOrder, state, first_state, cuts_of, shelf_of, did}
 use Rattle.ssq_desk.specs.declared.desk.Load.{Load}
 use Rattle.ssq_desk.specs.declared.desk.PartLog.{PartLog}
@@ -82,10 +81,10 @@ one_plan owned opened s cuts n ends plans plan are epoch mark ends_is printed go
 }
   where
     same : AreSameUpTo cuts (extended cuts n ends) n
-    same e le = sym (ap (λ (b : Bool). if b then ends else cuts e) (nat_lt-not n e le))
+    same e le = sym (ap (λ (b : Bool). if b then ends else cuts e) (le-ltb n e le))
 
     next_is : (extended cuts n ends) (n + 1) ≡ ends
-    next_is = ap (λ (b : Bool). if b then ends else cuts (n + 1)) (nat_lt-is n (n + 1) (omega arith))
+    next_is = ap (λ (b : Bool). if b then ends else cuts (n + 1)) (lt-ltb n (n + 1) (omega arith))
 
     also_follow : (e : ℕ) → e < n + 1 → IsTrue (follows (extended cuts n ends e) (extended cuts n ends (e + 1)))
     also_follow e less = elim (cases_lt e n) [
@@ -177,7 +176,7 @@ module _ {D L S F : Type 0} (stores logs : Type 0) (history : D → History) (li
         out = out;
       } in
       let goes : IsTrue (follows (cuts c.front.planned) (next_ends r.cap c.ends r.available)) = subst (λ (from : Ends). IsTrue (follows from (next_ends r.cap c.ends r.available))) (sym b.ends) (next_follows r.cap c.ends r.available) in
-      let stays : AreSameUpTo cuts later c.front.planned = λ e le. sym (ap (λ (x : Bool). if x then next_ends r.cap c.ends r.available else cuts e) (nat_lt-not c.front.planned e le)) in
+      let stays : AreSameUpTo cuts later c.front.planned = λ e le. sym (ap (λ (x : Bool). if x then next_ends r.cap c.ends r.available else cuts e) (le-ltb c.front.planned e le)) in
       let h = planned (stores × logs) (Owns stores logs history lines shown) lines available (LogWent logs lines available answers faults) shown.opening.logs.items written sealed s cuts r c load.part_logs.items made.part_logs.items made.shares.items work load.seen all b load.pending load.out load.shares.items load.held.items whole.holds in
       let moved : HoldsIn stores logs history lines available answers faults written sealed shown (cuts_of (opening_in lines) (did shown disk (entry.Plan c.front.planned ∷ []))) core now.part_logs.items now.shares.items now.held.items now.out now.seen now.pending =
       (let part_logs = sym has.part_logs_are in let shares = sym has.shares_are in let held = sym (has.held_is ∙ ap (λ (v : Vec (Option Held)). v.items) is_made.held_is) in let outs = sym (has.out_is ∙ is_made.work.1) in let seen = sym (has.seen_is ∙ is_made.seen_is) in let pending = sym (has.pending_is ∙ is_made.pending_is) in

@@ -2,7 +2,7 @@
 use Rattle.std.proofs.Common.{◌≡◌, ◌⊎◌, ◌<◌, ◌≤◌, ◌+◌, ◌-◌, ◌++◌, ◌||◌, [], ◌∷◌, ℕ, zero, suc, Bool, true, false, true≢false, List, Option, Some, None, Result, Ok, Err, if◌then◌else◌, refl, sym, ap, ◌∙◌, subst, inl, inr, arith}
 use Rattle.std.specs.Prelude.{All, IfOk, IfSome, is_some}
 use Rattle.std.specs.Global.{Vec}
-use Rattle.std.proofs.lemmas.Bool.{cases_lt}
+use Rattle.std.proofs.lemmas.Bool.{cases_lt, or_right, or_left}
 use Rattle.std.proofs.lemmas.List.{append-nil, append_assoc, map-append}
 use Rattle.std.proofs.lemmas.List.Elements.{All-head, All-push, All-tail}
 use Rattle.ssq_outside.specs.declared.name.Name.{Name}
@@ -36,20 +36,12 @@ among_deltas p from (suc count) q among = by (same_name (name.Delta p from) q) r
         let rest = later (sym (ap (λ (b : Bool). b || is_among (deltas_from p (from + 1) count) q) is) ∙ among) in
         (rest.0, rest.1, (let a = rest.2 in omega (arith, a)), (let a = rest.3 in omega (arith, a)))
 
-or_next : (a b : Bool) → b ≡ true → (a || b) ≡ true
-or_next true b is = refl
-or_next false b is = is
-
-or_this : (a b : Bool) → a ≡ true → (a || b) ≡ true
-or_this true b is = refl
-or_this false b is = false_true is
-
 pub delta_among : (p from count w : ℕ) → from ≤ w → w < from + count → is_among (deltas_from p from count) (name.Delta p w) ≡ true
 delta_among p from zero w le less = absurd (omega (arith, le, less))
 delta_among p from (suc count) w le less = elim (cases_lt from w) [
-  | inl below ↦ or_next (same_name (name.Delta p from) (name.Delta p w)) (is_among (deltas_from p (from + 1) count) (name.Delta p w)) (delta_among p (from + 1) count w (omega (arith, below)) (omega (arith, less)))
+  | inl below ↦ or_right (same_name (name.Delta p from) (name.Delta p w)) (is_among (deltas_from p (from + 1) count) (name.Delta p w)) (delta_among p (from + 1) count w (omega (arith, below)) (omega (arith, less)))
   | inr most ↦ (let same : from ≡ w = omega (arith, le, most) in
-      or_this (same_name (name.Delta p from) (name.Delta p w)) (is_among (deltas_from p (from + 1) count) (name.Delta p w)) (subst (λ (x : ℕ). same_name (name.Delta p from) (name.Delta p x) ≡ true) same (same_name-same (name.Delta p from))))
+      or_left (same_name (name.Delta p from) (name.Delta p w)) (is_among (deltas_from p (from + 1) count) (name.Delta p w)) (subst (λ (x : ℕ). same_name (name.Delta p from) (name.Delta p x) ≡ true) same (same_name-same (name.Delta p from))))
 ]
 
 -- a needed file is a delta from the floor on, or the snapshot below it
@@ -69,10 +61,10 @@ needed_is p v (Some b) older q among = by (same_name (name.Snapshot p b) q) refl
 
 pub needs_delta : (p v : ℕ) (below : Option ℕ) → IfSome below (λ b. b < v) → (w : ℕ) → floor_of below ≤ w → w ≤ v → is_among (files_for p v below) (name.Delta p w) ≡ true
 needs_delta p v None older w from to = delta_among p 0 (v + 1) w (omega arith) (omega (arith, to))
-needs_delta p v (Some b) older w from to = or_next (same_name (name.Snapshot p b) (name.Delta p w)) (is_among (deltas_from p (b + 1) (v - b)) (name.Delta p w)) (delta_among p (b + 1) (v - b) w from (omega (arith, to, older)))
+needs_delta p v (Some b) older w from to = or_right (same_name (name.Snapshot p b) (name.Delta p w)) (is_among (deltas_from p (b + 1) (v - b)) (name.Delta p w)) (delta_among p (b + 1) (v - b) w from (omega (arith, to, older)))
 
 pub needs_snapshot : (p v b : ℕ) → is_among (files_for p v (Some b)) (name.Snapshot p b) ≡ true
-needs_snapshot p v b = or_this (same_name (name.Snapshot p b) (name.Snapshot p b)) (is_among (deltas_from p (b + 1) (v - b)) (name.Snapshot p b)) (same_name-same (name.Snapshot p b))
+needs_snapshot p v b = or_left (same_name (name.Snapshot p b) (name.Snapshot p b)) (is_among (deltas_from p (b + 1) (v - b)) (name.Snapshot p b)) (same_name-same (name.Snapshot p b))
 
 -- one delta more
 deltas_next : (p from count : ℕ) → deltas_from p from (suc count) ≡ deltas_from p from count ++ name.Delta p (from + count) ∷ []
@@ -107,8 +99,8 @@ some_read [] q there = false_true there
 some_read (file ∷ read) q there = by (same_name file.0 q) refl (some_read read q)
   where
     by : (b : Bool) → same_name file.0 q ≡ b → (is_some (content_in read q) ≡ true → is_among (names_in read) q ≡ true) → (same_name file.0 q || is_among (names_in read) q) ≡ true
-    by true is later = or_this (same_name file.0 q) (is_among (names_in read) q) is
-    by false is later = or_next (same_name file.0 q) (is_among (names_in read) q) (later (sym (ap (λ (b : Bool). is_some (if b then Some file.1 else content_in read q)) is) ∙ there))
+    by true is later = or_left (same_name file.0 q) (is_among (names_in read) q) is
+    by false is later = or_right (same_name file.0 q) (is_among (names_in read) q) (later (sym (ap (λ (b : Bool). is_some (if b then Some file.1 else content_in read q)) is) ∙ there))
 
 -- ---- the first of them that is malformed is one of them
 
@@ -172,10 +164,10 @@ names_all p from v versions start now same is = is ∙ ap (λ (w : ℕ). start +
 
 -- a snapshot is among itself and others
 pub first_among : (q : Name) (names : List Name) → is_among (q ∷ names) q ≡ true
-first_among q names = or_this (same_name q q) (is_among names q) (same_name-same q)
+first_among q names = or_left (same_name q q) (is_among names q) (same_name-same q)
 
 pub next_among : (n q : Name) (names : List Name) → is_among names q ≡ true → is_among (n ∷ names) q ≡ true
-next_among n q names is = or_next (same_name n q) (is_among names q) is
+next_among n q names is = or_right (same_name n q) (is_among names q) is
 
 -- these are the files that are needed
 pub behind_is : (p v b versions : ℕ) → versions ≡ v + 1 → name.Snapshot p b ∷ deltas_from p (b + 1) (versions - (b + 1)) ≡ files_for p v (Some b)

@@ -1,5 +1,5 @@
 -- A reduce task is taken back.
-use Rattle.std.proofs.Common.{◌≡◌, ◌<◌, ◌+◌, [], ◌∷◌, ℕ, zero, suc, Bool, true, false, true≢false, List, set, Option, Some, None, Result, Ok, Err, inl, inr, refl, sym, ap, ◌∙◌, subst, arith}
+use Rattle.std.proofs.Common.{◌≡◌, ◌<◌, ◌+◌, [], ◌∷◌, ℕ, zero, suc, Bool, true, false, true≢false, List, set, Option, Some, None, Result, Ok, Err, inl, inr, refl, sym, ap, ◌∙◌, subst, arith, le-ltb, lt-ltb}
 use Rattle.std.specs.Prelude.{All, is_some, not, nat_lt, IfOk, IfErr, IfSome, IsSomeAnd, if◌then◌else◌}
 use Rattle.std.specs.List.{list_all}
 use Rattle.std.specs.Global.{Vec}
@@ -28,7 +28,7 @@ use Rattle.ssq_board.specs.declared.front.Place.TheVariants as place
 use Rattle.ssq_board.specs.Core.{is_here, is_of_epoch, is_stopped, worse, worse_by, fault_at, fault_in, due_of, due_stop, or_stop}
 use Rattle.ssq_board.specs.Follows.{IsOwn}
 use Rattle.ssq_board.proofs.Leasts.{cause_counts}
-use Rattle.ssq_board.proofs.Lists.{nat_lt-is, nat_lt-not, put_else}
+use Rattle.ssq_board.proofs.Lists.{put_else}
 use Rattle.ssq_terms.specs.Laws.{FaultsAreOfTasks}
 use Rattle.ssq_terms.specs.Partitions.{BringsPartition, HoldsPartition, IsNoVersionOf, IsVersionOf, held_in, overflow_of}
 use Rattle.ssq_terms.specs.Partitions.{IsReduceOf as IsPartitionTask}
@@ -164,8 +164,8 @@ given_empty owned written s cuts e p (Some state) given t = given.2 t
 
 -- whether its partition keeps state
 pub given_keeps : {S : Type 0} (owned : Type 0) (written : S → List ℕ) (s : Setting) (cuts : Cuts) (e p : ℕ) (state : Option (State S)) → IsStateFor owned written s cuts e p state → nat_lt p (keeping_in s) ≡ is_some state
-given_keeps owned written s cuts e p None given = nat_lt-not p (keeping_in s) given
-given_keeps owned written s cuts e p (Some state) given = nat_lt-is p (keeping_in s) given.0
+given_keeps owned written s cuts e p None given = le-ltb p (keeping_in s) given
+given_keeps owned written s cuts e p (Some state) given = lt-ltb p (keeping_in s) given.0
 
 pub partition_task : {S F : Type 0} (owned : Type 0) (written : S → List ℕ) (s : Setting) (cuts : Cuts) (e : ℕ) (task : ReduceTask S F) → IsReduceTask owned written s cuts e task → owned → IsPartitionTask s cuts e task
 partition_task owned written s cuts e task of t = record {

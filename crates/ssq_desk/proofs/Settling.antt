@@ -1,5 +1,5 @@
 -- What a desk holds after a sync, a commit, or a Stop of either.
-use Rattle.std.proofs.Common.{◌≡◌, ◌≤◌, ◌+◌, [], ◌∷◌, ℕ, Bool, true, false, true≢false, List, Option, Some, None, Result, Ok, Err, refl, sym, ap, ◌∙◌, subst, arith}
+use Rattle.std.proofs.Common.{◌≡◌, ◌≤◌, ◌+◌, [], ◌∷◌, ℕ, Bool, true, false, true≢false, List, Option, Some, None, Result, Ok, Err, refl, sym, ap, ◌∙◌, subst, arith, le-ltb}
 use Rattle.std.specs.Prelude.{is_some, OnOk, IfErr}
 use Rattle.std.specs.Global.{Vec}
 use Rattle.std.proofs.lemmas.Option.{same_Some}
@@ -15,7 +15,7 @@ use Rattle.ssq_board.specs.declared.front.Ready.TheVariants as ready
 use Rattle.std.specs.List.{list_all}
 use Rattle.ssq_outside.specs.History.{History}
 use Rattle.ssq_board.specs.Core.{Core, after, ready_of, is_open, is_fine}
-use Rattle.ssq_board.proofs.Lists.{all_fine, nat_lt-not}
+use Rattle.ssq_board.proofs.Lists.{all_fine}
 use Rattle.ssq_board.proofs.Readies.{commit_may}
 use Rattle.ssq_board.proofs.Sounds.{open_less}
 use Rattle.ssq_ledger.specs.Shown.{Shown, HasRisen, cuts_of, did}
@@ -53,7 +53,7 @@ disk_no_log e = cc
 
 -- with as many epochs committed as are planned, none runs
 closed_then : (c : Core) → c.front.planned ≤ c.front.committed → is_open c ≡ false
-closed_then c near = nat_lt-not c.front.committed c.front.planned near
+closed_then c near = le-ltb c.front.committed c.front.planned near
 
 -- with a commit that was published
 abbrev pub with_commit : {L S F : Type 0} → Load L S F → Pending F → Vec Told → Load L S F

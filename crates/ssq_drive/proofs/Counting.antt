@@ -1,5 +1,6 @@
 -- How many epochs a history acknowledged.
-use Rattle.std.proofs.Common.{◌≡◌, ◌⊎◌, ◌+◌, ◌-◌, ◌||◌, nat_lt, ℕ, Bool, true, false, true≢false, List, [], ◌∷◌, length, Option, Some, None, if◌then◌else◌, sym, refl, ap, ◌∙◌, subst, inl, inr, arith}
+use Rattle.std.proofs.Common.{◌≡◌, ◌⊎◌, ◌+◌, ◌-◌, ◌||◌, nat_lt, ℕ, Bool, true, false, true≢false, List, [], ◌∷◌, length, Option, Some, None, if◌then◌else◌, sym, refl, ap, ◌∙◌, subst, inl, inr, arith, le-ltb, lt-ltb}
+use Rattle.std.proofs.lemmas.Bool.{or_right, or_left}
 use Rattle.ssq_core.specs.declared.event.Event.{Event}
 use Rattle.ssq_core.specs.Laws.{acknowledged}
 use Rattle.ssq_core.specs.Machine.{upkeep}
@@ -9,7 +10,6 @@ use Rattle.ssq_board.specs.declared.front.Entry.TheVariants as entry
 use Rattle.ssq_board.specs.Core.{Scope, Core, after, due, is_open, is_stopped, stops_by, events_all}
 use Rattle.ssq_board.specs.Shown.{Start, IsSound, first}
 use Rattle.ssq_board.specs.Told.{acknowledged_of}
-use Rattle.ssq_board.proofs.Lists.{nat_lt-is, nat_lt-not}
 use Rattle.ssq_board.proofs.Sounds.{step_sound}
 use Rattle.ssq_board.proofs.Telling.{Runs, ack_snapshot, ack_unmade, after_stop, now_stopped, ack_report, ack_version, none_some}
 use Rattle.ssq_board.specs.Shelf.{acknowledged_in}
@@ -19,13 +19,6 @@ use Rattle.ssq_board.specs.Shelf.{acknowledged_in}
 abbrev IsAt : Core → Option ℕ → ℕ → Type 0
 IsAt c p a = ((p ≡ None) × (a ≡ c.front.committed) × ((is_open c || c.front.settled) ≡ true))
     ⊎ (((p ≡ Some a) ⊎ ((p ≡ None) × (is_stopped c.front.stop ≡ true))) × (a + 1 ≡ c.front.committed) × (c.front.settled ≡ false) × (is_open c ≡ false))
-
-or_right : (a b : Bool) → b ≡ true → (a || b) ≡ true
-or_right true b is = refl
-or_right false b is = is
-
-or_left : (a b : Bool) → a ≡ true → (a || b) ≡ true
-or_left a b is = ap (λ (x : Bool). x || b) is
 
 none_waits : (o : Option Cause) (p : Option ℕ) → p ≡ None → after_stop o p ≡ None
 none_waits None p is = is
@@ -55,7 +48,7 @@ module _ (r : Scope) where
   counts [] c n p a sound at l = (p, subst (λ (k : ℕ). IsAt n p k) (let e : a ≡ a + 0 = omega arith in e) (subst (λ (x : Core). IsAt x p a) l at))
   counts (entry.Plan e ∷ es) c n p a sound (inl at) l =
       let before = sound.before in
-      let now = nat_lt-is c.front.committed (c.front.planned + 1) (omega (arith, before)) in
+      let now = lt-ltb c.front.committed (c.front.planned + 1) (omega (arith, before)) in
       counts es (after r c (entry.Plan e)) n p a (step_sound r c (entry.Plan e) l.0 sound) (inl (at.0, at.1, or_left (nat_lt c.front.committed (c.front.planned + 1)) false now)) l.1
   counts (entry.Plan e ∷ es) c n p a sound (inr at) l = absurd (true≢false (sym l.0.3 ∙ at.2))
   counts (entry.Claim t ∷ es) c n p a sound at l = counts es (after r c (entry.Claim t)) n p a (step_sound r c (entry.Claim t) l.0 sound) at l.1
@@ -90,7 +83,7 @@ module _ (r : Scope) where
       let near = sound.near in
       let here : e ≡ a = l.0.1 ∙ sym at.1 in
       counts es (after r c (entry.Commit e b)) n (Some e) a (step_sound r c (entry.Commit e b) l.0 sound)
-      (inr (inl (ap Some here), ap (λ (k : ℕ). k + 1) at.1, refl, nat_lt-not (c.front.committed + 1) c.front.planned near)) l.1
+      (inr (inl (ap Some here), ap (λ (k : ℕ). k + 1) at.1, refl, le-ltb (c.front.committed + 1) c.front.planned near)) l.1
   counts (entry.Commit e b ∷ es) c n p a sound (inr at) l = absurd (true≢false (sym l.0.5 ∙ at.2))
   counts (entry.Sync clock ∷ es) c n None a sound (inl at) l =
       counts es (after r c (entry.Sync clock)) n None a (step_sound r c (entry.Sync clock) l.0 sound) (inl (refl, at.1, or_right (is_open c) true refl)) l.1

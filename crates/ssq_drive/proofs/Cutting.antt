@@ -1,14 +1,13 @@
 -- The cuts that entries bring.
-use Rattle.std.proofs.Common.{◌≡◌, ◌⊎◌, ◌<◌, ◌≤◌, ◌+◌, ◌||◌, ◌&&◌, nat_lt, ℕ, Bool, true, false, true≢false, List, [], ◌∷◌, Option, Some, None, if◌then◌else◌, sym, refl, ap, ◌∙◌, subst, inl, inr, le_refl, arith}
+use Rattle.std.proofs.Common.{◌≡◌, ◌⊎◌, ◌<◌, ◌≤◌, ◌+◌, ◌||◌, ◌&&◌, nat_lt, ℕ, Bool, true, false, true≢false, List, [], ◌∷◌, Option, Some, None, if◌then◌else◌, sym, refl, ap, ◌∙◌, subst, inl, inr, le_refl, arith, le-ltb, lt-ltb}
 use Rattle.std.specs.List.{list_any}
-use Rattle.std.proofs.lemmas.Bool.{cases_lt}
+use Rattle.std.proofs.lemmas.Bool.{cases_lt, or_parts}
 use Rattle.ssq_core.specs.Course.{Cuts, Ends}
 use Rattle.ssq_board.specs.declared.front.Cause.{Cause}
 use Rattle.ssq_board.specs.declared.front.Cause.TheVariants as cause
 use Rattle.ssq_board.specs.declared.front.Entry.{Entry}
 use Rattle.ssq_board.specs.declared.front.Entry.TheVariants as entry
 use Rattle.ssq_board.specs.Core.{Scope, Core, May, HasCause, after, cuts_by, cuts_all, extended, next_end, next_ends, within, is_behind, is_of_epoch, is_open, or_stop}
-use Rattle.ssq_board.proofs.Lists.{nat_lt-is, nat_lt-not}
 use Rattle.ssq_board.proofs.Telling.{Runs}
 use Rattle.ssq_drive.specs.Driven.{brings_due}
 
@@ -30,16 +29,12 @@ pub first_of_two : (a b : Bool) → (a || b) ≡ true → b ≡ false → a ≡ 
 first_of_two true b is none = refl
 first_of_two false b is none = absurd (true≢false (sym is ∙ none))
 
-neither : (a b : Bool) → (a || b) ≡ false → (a ≡ false) × (b ≡ false)
-neither false b is = (refl, is)
-neither true b is = absurd (true≢false is)
-
 -- where nothing more was found, the next cut covers all, too
 still_covered : (cap : Option ℕ) (es : Ends) (ss : List ℕ) → is_behind es ss ≡ false → is_behind (next_ends cap es ss) ss ≡ false
 still_covered cap [] ss none = refl
 still_covered cap (e ∷ es) [] none = refl
 still_covered cap (e ∷ es) (s ∷ ss) none =
-    let both = neither (nat_lt e.end s) (is_behind es ss) none in
+    let both = or_parts (nat_lt e.end s) (is_behind es ss) none in
     let here : nat_lt (next_end cap e.end s) s ≡ false = ap (λ (b : Bool). nat_lt (if b then within cap e.end s else e.end) s) both.0 ∙ both.0 in
     let rest = still_covered cap es ss both.1 in
     (λ i. here i || rest i)
@@ -117,10 +112,10 @@ module _ (r : Scope) (closing : Bool) (from : ℕ) (old : Cuts) where
       above = gone.more
 
       kept : (e : ℕ) → e ≤ n → new e ≡ cuts e
-      kept e le = ap (λ (b : Bool). if b then ends else cuts e) (nat_lt-not n e le)
+      kept e le = ap (λ (b : Bool). if b then ends else cuts e) (le-ltb n e le)
 
       now : new (n + 1) ≡ ends
-      now = ap (λ (b : Bool). if b then ends else cuts (n + 1)) (nat_lt-is n (n + 1) (omega arith))
+      now = ap (λ (b : Bool). if b then ends else cuts (n + 1)) (lt-ltb n (n + 1) (omega arith))
 
       here : new n ≡ c.ends
       here = kept n (le_refl n) ∙ gone.last
@@ -171,8 +166,8 @@ module _ (r : Scope) (closing : Bool) (from : ℕ) (old : Cuts) where
   all_go : (es : List Entry) (c n : Core) (cuts : Cuts) → Runs r c es n → (closing ≡ false → list_any brings_due es ≡ false) → HasGone c cuts → HasGone n (cuts_all r cuts c es)
   all_go [] c n cuts runs undue gone = subst (λ (x : Core). HasGone x cuts) runs gone
   all_go (e ∷ es) c n cuts runs undue gone =
-      all_go es (after r c e) n (cuts_by r cuts c e) runs.1 (λ none. (neither (brings_due e) (list_any brings_due es) (undue none)).1)
-      (one_goes cuts c e runs.0 (λ none. (neither (brings_due e) (list_any brings_due es) (undue none)).0) gone)
+      all_go es (after r c e) n (cuts_by r cuts c e) runs.1 (λ none. (or_parts (brings_due e) (list_any brings_due es) (undue none)).1)
+      (one_goes cuts c e runs.0 (λ none. (or_parts (brings_due e) (list_any brings_due es) (undue none)).0) gone)
 
 -- entries that may come one after another, after none of which an epoch without lines is due where the query does not close
 pub entries_go : (r : Scope) (closing : Bool) (es : List Entry) (c n : Core) (cuts : Cuts) → Runs r c es n → cuts c.front.planned ≡ c.ends → (closing ≡ false → c.front.due ≡ false) → (closing ≡ false → list_any brings_due es ≡ false)

@@ -1,12 +1,13 @@
 -- What is due, and what may go, once names are settled, and once a file that may go is removed.
 use Rattle.std.proofs.Common.{◌≡◌, ◌⊎◌, ◌<◌, ◌+◌, ◌++◌, ◌||◌, not, ℕ, Bool, true, false, true≢false, List, [], ◌∷◌, Option, sym, refl, ap, ◌∙◌, subst, inl, inr, append-nil, if◌then◌else◌, arith}
+use Rattle.std.proofs.lemmas.Bool.{or_left, or_right, false_from_ne_true}
 use Rattle.ssq_outside.specs.declared.name.Name.{Name}
 use Rattle.ssq_outside.specs.declared.name.Name.TheVariants as name
 use Rattle.ssq_outside.specs.Files.{same_name}
 use Rattle.ssq_outside.proofs.Names.{same_name-true, same_name-same}
 use Rattle.ssq_upkeep.specs.Upkeep.{Goes, IsDue, MayGo, is_among, is_sure, is_up_to}
 use Rattle.ssq_board.specs.Shelf.{without}
-use Rattle.ssq_board.proofs.Keeping.{among_both, among_end, or_left, or_right}
+use Rattle.ssq_board.proofs.Keeping.{among_both, among_end}
 
 pub first_of : (a b : Bool) → (a || b) ≡ false → a ≡ false
 first_of true b is = absurd (true≢false is)
@@ -61,10 +62,6 @@ without_less q x (n ∷ ns) there = by (same_name n q) there (without_less q x n
     by true there rest = or_right (same_name n x) (is_among ns x) (rest there)
     by false there rest = or_second (same_name n x) there rest
 
-not_true : (b : Bool) → (b ≡ true → ⊥) → b ≡ false
-not_true true never = absurd (never refl)
-not_true false never = refl
-
 snapshot_same : (p v i w : ℕ) → name.Snapshot p v ≡ name.Snapshot i w → (p ≡ i) × (v ≡ w)
 snapshot_same p v i w is = (ap (part p) is, ap (version v) is)
   where
@@ -110,8 +107,8 @@ module _ (settled : List Name) (last : Option ℕ) (q : Name) (may : MayGo (is_s
   due_without news claimed p v due = record {
     tenth = due.tenth;
     acknowledged = due.acknowledged;
-    absent = not_true (is_among ((settled ++ news) ++ claimed) (name.Snapshot p v)) (λ is. absent is);
-    stays = λ s above sure. not_true (is_up_to last (s + 20)) (λ up. stays s above sure up);
+    absent = false_from_ne_true (is_among ((settled ++ news) ++ claimed) (name.Snapshot p v)) (λ is. absent is);
+    stays = λ s above sure. false_from_ne_true (is_up_to last (s + 20)) (λ up. stays s above sure up);
   }
     where
       here : Name

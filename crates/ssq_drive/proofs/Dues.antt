@@ -1,6 +1,7 @@
 -- When an epoch without lines is due, where a round begins.
-use Rattle.std.proofs.Common.{◌≡◌, ◌<◌, ◌≤◌, ◌⊎◌, ◌&&◌, not, nat_lt, ℕ, ℤ, zero, suc, Bool, true, false, List, [], ◌∷◌, length, get_or, Option, Some, None, IfSome, inl, inr, refl, sym, ap, ◌∙◌, subst, arith}
+use Rattle.std.proofs.Common.{◌≡◌, ◌<◌, ◌≤◌, ◌⊎◌, ◌&&◌, not, nat_lt, ℕ, ℤ, zero, suc, Bool, true, false, List, [], length, get_or, Option, None, IfSome, inl, inr, refl, sym, ap, ◌∙◌, subst, arith}
 use Rattle.std.specs.Prelude.{slice_get, option_and_then}
+use Rattle.std.proofs.lemmas.Option.{slice_get-get_or}
 use Rattle.ssq_shape.specs.declared.bound.Bound.{Bound}
 use Rattle.ssq_meaning.specs.Times.{delays, is_above, watermark_by}
 use Rattle.ssq_meaning.specs.Epochs.{seen, watermark_before}
@@ -17,16 +18,11 @@ use Rattle.ssq_desk.proofs.Beginnings.{told_from, nothing_seen}
 
 -- ---- the last watermark
 
-slice_is : {A : Type 0} (l : List A) (i : ℕ) (default : A) → i < length l → slice_get l i ≡ Some (get_or l i default)
-slice_is [] i default less = absurd (omega (arith, less))
-slice_is (x ∷ l) zero default less = refl
-slice_is (x ∷ l) (suc i) default less = slice_is l i default (omega (arith, less))
-
 module _ (s : Setting) (cuts : Cuts) (found : Opened) (before : found.committed ≤ length found.plans) (plans : (e : ℕ) (default : Plan) → e < length found.plans → get_or found.plans e default ≡ plan_of ((job_of s).course cuts) e) where
   mark_is : (n : ℕ) → n ≤ length found.plans → mark_of found.plans n ≡ watermark_before s.job.bound (parts_in s) (offsets cuts) n
   mark_is zero le = refl
   mark_is (suc n) le =
-      ap (option_and_then (λ (plan : Plan). plan.watermark)) (slice_is found.plans n (plan_of (course_of s cuts) n) (omega (arith, le)))
+      ap (option_and_then (λ (plan : Plan). plan.watermark)) (slice_get-get_or found.plans n (plan_of (course_of s cuts) n) (omega (arith, le)))
       ∙ ap (λ (plan : Plan). plan.watermark) (plans n (plan_of (course_of s cuts) n) (omega (arith, le)))
 
   module _ (unmarked : UnmarkedHaveNoTimes) (runs : CanRun s.job.bound) (seen_are : ((found.committed ≡ 0) × (found.seen ≡ [])) ⊎ (found.seen ≡ ((job_of s).course cuts).seen found.committed)) where

@@ -1,9 +1,10 @@
 -- The lines of the epochs that a round commits.
-use Rattle.std.proofs.Common.{◌≡◌, ◌⊎◌, ◌<◌, ◌≤◌, ◌+◌, ◌++◌, not, ℕ, zero, suc, Bool, true, false, true≢false, List, [], ◌∷◌, length, get_or, set, Option, Some, None, Result, Ok, Err, IfOk, IfErr, OnOk, OnErr, if◌then◌else◌, sym, refl, ap, ◌∙◌, subst, inl, inr, le_refl, arith, rules}
+use Rattle.std.proofs.Common.{◌≡◌, ◌⊎◌, ◌<◌, ◌≤◌, ◌+◌, ◌++◌, not, ℕ, zero, suc, Bool, true, false, true≢false, List, [], ◌∷◌, length, get_or, set, Option, Some, None, Result, Ok, Err, IfOk, IfErr, OnOk, OnErr, if◌then◌else◌, sym, refl, ap, ◌∙◌, subst, inl, inr, le_refl, arith, rules, le-ltb, lt-ltb}
 use Rattle.std.specs.Prelude.{slice_get}
 use Rattle.std.specs.List.{list_all, list_any}
 use Rattle.std.proofs.lemmas.Bool.{cases_lt, ltb-true, ltb-false}
 use Rattle.std.proofs.lemmas.List.{length-map}
+use borrow.Author.Tests.{not-false}
 use mathlib.Core.Option.{some, some-injective}
 use lib.ListN.{get_elem?}
 use Rattle.ssq_outside.specs.declared.gate.TaskId.{TaskId}
@@ -35,7 +36,7 @@ use Rattle.ssq_board.specs.declared.front.Place.TheVariants as place
 use Rattle.ssq_board.specs.declared.front.Ready.TheVariants as ready
 use Rattle.ssq_board.specs.Core.{Scope, Core, after, after_all, cuts_by, cuts_all, dealt, extended, has_line_at, next_ends, if_map, tasks_of, is_fine, is_open, is_stopped, is_waiting, ready_of, ready_tasks}
 use Rattle.ssq_board.specs.Shown.{Start, first, first_by, planned_by}
-use Rattle.ssq_board.proofs.Lists.{all_fine, at_length, dealt_at, dealt_length, nat_lt-is, nat_lt-not, set_length, there_at}
+use Rattle.ssq_board.proofs.Lists.{all_fine, at_length, dealt_at, dealt_length, set_length, there_at}
 use Rattle.ssq_board.proofs.Readies.{past, chosen, commit_may, none_of_tasks}
 use Rattle.ssq_ledger.specs.Shown.{Shown, Opening, cuts_of, did}
 use Rattle.ssq_desk.specs.declared.round.Round.{Round}
@@ -124,8 +125,8 @@ good_entry s r cuts begin c (entry.Plan k) right g =
     let n = c.front.planned in
     let ends = next_ends r.cap c.ends r.available in
     let new : Cuts = extended cuts n ends in
-    let kept : (e : ℕ) → e ≤ n → new e ≡ cuts e = λ e le. ap (λ (b : Bool). if b then ends else cuts e) (nat_lt-not n e le) in
-    let now : new (n + 1) ≡ ends = ap (λ (b : Bool). if b then ends else cuts (n + 1)) (nat_lt-is n (n + 1) (omega arith)) in
+    let kept : (e : ℕ) → e ≤ n → new e ≡ cuts e = λ e le. ap (λ (b : Bool). if b then ends else cuts e) (le-ltb n e le) in
+    let now : new (n + 1) ≡ ends = ap (λ (b : Bool). if b then ends else cuts (n + 1)) (lt-ltb n (n + 1) (omega arith)) in
     let all : n ≤ c.front.committed = ltb-false c.front.committed n right in
     let b = g.before in
     let same : c.front.committed ≡ n = omega (arith, all, b) in
@@ -233,11 +234,6 @@ plan_closed r c next =
     let a = past (is_stopped c.front.stop) _ _ _ next (λ x. cc) in
     elim (chosen (is_open c) (ready_tasks c) _ _ a.1) [ inl opened ↦ absurd (tasks_no_plan c opened.1) | inr closed ↦ closed.0 ]
 
--- where one is to be committed all its map tasks are back
-not_not : (b : Bool) → not b ≡ false → b ≡ true
-not_not true is = refl
-not_not false is = absurd (true≢false is)
-
 commit_fine : (r : Scope) (c : Core) → ready_of r c ≡ ready.Commit → (is_open c ≡ true) × (list_all is_fine c.maps ≡ true)
 commit_fine r c next =
     let may = commit_may r c false next in
@@ -247,7 +243,7 @@ commit_fine r c next =
           let f = past (not c.front.fresh) _ _ _ opened.1 (λ x. cc) in
           let w = past (list_any is_waiting c.maps) _ _ _ f.1 (λ x. cc) in
           let m = past (not (list_all is_fine c.maps)) _ _ _ w.1 (λ x. cc) in
-          (opened.0, not_not (list_all is_fine c.maps) m.0)
+          (opened.0, not-false (list_all is_fine c.maps) m.0)
       | inr closed ↦ absurd (true≢false (sym may.2 ∙ closed.0))
     ]
 

@@ -1,6 +1,8 @@
 -- Upkeep, by what a desk knows.
-use Rattle.std.proofs.Common.{◌≡◌, ◌⊎◌, ◌<◌, ◌≤◌, ◌+◌, ◌*◌, ◌-◌, ◌&&◌, ◌||◌, ◌++◌, not, ℕ, Bool, true, false, true≢false, List, [], ◌∷◌, length, Option, Some, None, IfSome, if◌then◌else◌, sym, refl, ap, ◌∙◌, subst, inl, inr, le_refl, append_assoc, arith}
+use Rattle.std.proofs.Common.{◌≡◌, ◌⊎◌, ◌<◌, ◌≤◌, ◌+◌, ◌*◌, ◌-◌, ◌&&◌, ◌||◌, ◌++◌, not, ℕ, Bool, true, false, true≢false, List, [], ◌∷◌, length, Option, Some, None, IfSome, if◌then◌else◌, sym, refl, ap, ◌∙◌, subst, inl, inr, le_refl, append_assoc, arith, ltb-true, le-ltb}
 use Rattle.std.specs.List.{list_any}
+use Rattle.std.proofs.lemmas.Bool.{or_left}
+use borrow.Author.Tests.{not-false}
 use Rattle.ssq_outside.specs.declared.name.Name.{Name}
 use Rattle.ssq_outside.specs.declared.name.Name.TheVariants as name
 use Rattle.ssq_outside.specs.Files.{same_name}
@@ -16,8 +18,7 @@ use Rattle.ssq_board.specs.Core.{Scope, Core, after, after_all, is_open, is_more
 use Rattle.ssq_board.specs.Rounds.{IsAtRest, epochs_left, left, one_if, weigh, weight}
 use Rattle.ssq_board.specs.Shelf.{Shelf, acknowledged_in, asked_in, last_before, last_of, shelf_all, shelf_by, snapshot_on, there_in, version_on, without}
 use Rattle.ssq_board.specs.Shown.{first}
-use Rattle.ssq_board.proofs.Keeping.{among_both, below_of, or_left, up_to_is}
-use Rattle.ssq_board.proofs.Lists.{nat_lt-not}
+use Rattle.ssq_board.proofs.Keeping.{among_both, up_to_is}
 use Rattle.ssq_board.proofs.Readies.{past, over_is}
 use Rattle.ssq_board.proofs.Resting.{front_here}
 use Rattle.ssq_board.proofs.Telling.{Runs}
@@ -209,16 +210,12 @@ none_stops : (o : Option Cause) → is_stopped o ≡ false → o ≡ None
 none_stops None is = refl
 none_stops (Some f) is = absurd (true≢false is)
 
-not_not : (b : Bool) → not b ≡ false → b ≡ true
-not_not true is = refl
-not_not false is = absurd (true≢false is)
-
 pub plan_between : (r : Scope) (c : Core) → ready_of r c ≡ ready.Plan → IsBetween c
 plan_between r c next =
     let a = past (is_stopped c.front.stop) _ _ _ next (λ x. cc) in
     let b = past (is_open c) (ready_tasks c) _ _ a.1 (tasks_no_plan c) in
     let d = past (not c.front.settled) _ _ _ b.1 (λ x. cc) in
-    record { running = none_stops c.front.stop a.0; settled = not_not c.front.settled d.0 }
+    record { running = none_stops c.front.stop a.0; settled = not-false c.front.settled d.0 }
 
 over_between : (r : Scope) (c : Core) → ready_of r c ≡ ready.Over → IsBetween c
 over_between r c next = (let o = over_is r c next in record { running = o.0; settled = o.2 })
@@ -233,7 +230,7 @@ over_kept r c n over (inl is) runs = subst (λ (x : Core). ready_of r x ≡ read
 over_kept r c n over (inr (inl is)) runs =
     let o = over_is r c over in
     subst (λ (x : Core). ready_of r x ≡ ready.Over) (sym is)
-    (λ i. if nat_lt-not c.front.committed c.front.planned o.1 i then ready_tasks (rested c) else (if (o.3 i || o.4 i) then ready.Plan else ready.Over))
+    (λ i. if le-ltb c.front.committed c.front.planned o.1 i then ready_tasks (rested c) else (if (o.3 i || o.4 i) then ready.Plan else ready.Over))
 over_kept r c n over (inr (inr stopped)) runs = absurd (true≢false (sym stopped ∙ runs))
 
 pub stopped_ready : (r : Scope) (c : Core) → is_stopped c.front.stop ≡ true → ready_of r c ≡ ready.Stopped
@@ -382,7 +379,7 @@ module _ {D O : Type 0} (opening : O → Opening) where
       there_now = among_second (there_in k) (q ∷ []) q (or_left (same_name q q) false (same_name-same q))
 
       early : v < acknowledged_in old.core
-      early = below_of v (acknowledged_in old.core) (sym (up_to_is (acknowledged_in old.core) v) ∙ due.acknowledged)
+      early = ltb-true v (acknowledged_in old.core) (sym (up_to_is (acknowledged_in old.core) v) ∙ due.acknowledged)
 
       same_core : new.core ≡ old.core
       same_core = ap (λ s. s.core) is

@@ -1,5 +1,6 @@
 -- A snapshot that is handed out, and that comes back.
-use Rattle.std.proofs.Common.{◌≡◌, ◌<◌, ◌≤◌, ◌+◌, ℕ, Bool, true, false, List, [], ◌∷◌, All, Option, Some, None, IfSome, Result, Ok, Err, IfErr, sym, ap, ◌∙◌, subst, inl, inr, arith}
+use Rattle.std.proofs.Common.{◌≡◌, ◌<◌, ◌≤◌, ◌+◌, ℕ, Bool, true, false, List, [], ◌∷◌, All, Option, Some, None, IfSome, Result, Ok, Err, IfErr, sym, ap, ◌∙◌, subst, inl, inr, arith, ltb-true}
+use Rattle.std.proofs.lemmas.Bool.{or_left}
 use Rattle.ssq_outside.specs.declared.name.Name.{Name}
 use Rattle.ssq_outside.specs.declared.name.Name.TheVariants as name
 use Rattle.ssq_outside.specs.Faults.{Rises}
@@ -16,7 +17,7 @@ use Rattle.ssq_board.specs.declared.front.Entry.TheVariants as entry
 use Rattle.ssq_board.specs.Core.{Core, is_stopped}
 use Rattle.ssq_board.specs.Rounds.{IsAtRest}
 use Rattle.ssq_board.specs.Shelf.{Shelf, acknowledged_in, last_of, there_in}
-use Rattle.ssq_board.proofs.Keeping.{below_of, or_left, up_to_is}
+use Rattle.ssq_board.proofs.Keeping.{up_to_is}
 use Rattle.ssq_ledger.specs.Names.{IsNewestBelow}
 use Rattle.ssq_ledger.specs.Shown.{Shown, HasRisen, did, shelf_of}
 use Rattle.ssq_ledger.specs.Upkept.{NoneIsDue}
@@ -50,7 +51,7 @@ same_cause {A} f g is = ap or is
 
 -- what is sure of a commit is that its epoch is acknowledged
 sure_below : (v : ℕ) (c : Core) → is_up_to (last_of c) v ≡ true → v < acknowledged_in c
-sure_below v c is = below_of v (acknowledged_in c) (sym (up_to_is (acknowledged_in c) v) ∙ is)
+sure_below v c is = ltb-true v (acknowledged_in c) (sym (up_to_is (acknowledged_in c) v) ∙ is)
 
 -- the newest below a version lies below it
 newest_older : (p v : ℕ) (names : List Name) (below : Option ℕ) → IsNewestBelow p v names below → IfSome below (λ b. b < v)

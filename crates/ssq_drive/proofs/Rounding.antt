@@ -1,5 +1,5 @@
 -- How a round went, by its desk.
-use Rattle.std.proofs.Common.{◌≡◌, ◌≢◌, ◌⊎◌, ◌<◌, ◌≤◌, ◌+◌, ◌-◌, ◌||◌, nat_lt, ℕ, Bool, true, false, true≢false, List, [], ◌∷◌, length, map, get_or, slice_get, Option, Some, None, IfSome, IsSomeAnd, Ok, Err, if◌then◌else◌, sym, refl, ap, ◌∙◌, subst, inl, inr, arith}
+use Rattle.std.proofs.Common.{◌≡◌, ◌≢◌, ◌⊎◌, ◌<◌, ◌≤◌, ◌+◌, ◌-◌, ◌||◌, nat_lt, ℕ, Bool, true, false, true≢false, List, [], ◌∷◌, length, map, get_or, slice_get, Option, Some, None, IfSome, IsSomeAnd, Ok, Err, if◌then◌else◌, sym, refl, ap, ◌∙◌, subst, inl, inr, arith, le-ltb, ltb-true}
 use Rattle.std.specs.List.{list_any}
 use Rattle.std.proofs.lemmas.Bool.{ltb-false}
 use Rattle.std.proofs.lemmas.List.{length-map}
@@ -36,7 +36,6 @@ use Rattle.ssq_board.specs.Shown.{IsSound, first}
 use Rattle.ssq_board.specs.Told.{acknowledged_of}
 use Rattle.ssq_board.specs.Follows.{State, Leads}
 use Rattle.ssq_board.specs.Laws.{IsOpenedAt}
-use Rattle.ssq_board.proofs.Lists.{nat_lt-not, nat_lt-less}
 use Rattle.ssq_board.proofs.Readies.{over_is}
 use Rattle.ssq_board.proofs.Sounds.{first_sound}
 use Rattle.ssq_board.proofs.Telling.{Runs, runs_of, tells_all}
@@ -266,7 +265,7 @@ module _ {D L : Type 0} (stores logs : Type 0) (lines : L → List Line) (histor
   -- an epoch that is open is planned, and the first that is not told
   open_untold : is_open c ≡ true → (c.front.committed ≡ found.committed + length told) × (found.committed + length told < c.front.planned)
   open_untold opened =
-      let less = nat_lt-less c.front.committed c.front.planned opened in
+      let less = ltb-true c.front.committed c.front.planned opened in
       let all = sym (all_open opened) ∙ sym acknowledged in
       (all, omega (arith, less, all))
 
@@ -417,7 +416,7 @@ module _ {D L : Type 0} (stores logs : Type 0) (lines : L → List Line) (histor
         let fits = next_fits owned s (first_of found) cuts r.available c shelf found next.opened n begins_so in
         let same : first_of found ≡ first_of next.opened = ap (λ (m : Meta). begins m.parts) (sym n.meta_is) in
         laws.over t (job_of s) r (due_at s) has_terms.0 o.start es (first_state o r (history disk)) (state (history now) c shelf cuts) begins_on leads_on over.0 over.2 was.1
-        (nat_lt-not c.front.committed c.front.planned over.1) (cut_of (first_of next.opened) next.opened.plans)
+        (le-ltb c.front.committed c.front.planned over.1) (cut_of (first_of next.opened) next.opened.plans)
         (subst (λ (ends : Ends). AreSameUpTo (cut_of ends next.opened.plans) cuts c.front.planned) same fits.are)
 
     found_next : (next : NextRound) → end ≡ Ok next → IsFoundOf s (files_now (history now)) next.opened
@@ -469,7 +468,7 @@ module _ {D L : Type 0} (stores logs : Type 0) (lines : L → List Line) (histor
     none_due plans fits next ends =
         let over = over_is r c (closed.over next ends).0 in
         subst (λ (n : ℕ). due_at s (cut_of (first_of found) plans) n ≡ false) (sym fits.count)
-        (has_terms.0.dues (cut_of (first_of found) plans) cuts c.front.planned (λ k le. fits.are k le) ∙ sym (went_on.due_is (nat_lt-not c.front.committed c.front.planned over.1)) ∙ over.4)
+        (has_terms.0.dues (cut_of (first_of found) plans) cuts c.front.planned (λ k le. fits.are k le) ∙ sym (went_on.due_is (le-ltb c.front.committed c.front.planned over.1)) ∙ over.4)
 
     ran_by : (plans : List Plan) → FitsPlans (first_of found) found.plans plans c.front.planned cuts
         → RoundRan (stores × logs) s r (history disk) (history now) (cut_of (first_of found) plans) (length found.plans) found.committed (length plans) told end

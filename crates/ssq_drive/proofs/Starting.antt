@@ -1,12 +1,11 @@
 -- Where a round begins.
-use Rattle.std.proofs.Common.{◌≡◌, ◌⊎◌, ◌≤◌, ◌+◌, nat_lt, ℕ, Bool, true, false, true≢false, [], ◌∷◌, Option, Some, None, IfSome, sym, refl, ap, ◌∙◌, subst, inl, inr, arith}
+use Rattle.std.proofs.Common.{◌≡◌, ◌⊎◌, ◌≤◌, ◌+◌, nat_lt, ℕ, Bool, true, false, true≢false, [], ◌∷◌, Option, Some, None, IfSome, sym, refl, ap, ◌∙◌, subst, inl, inr, arith, lt-ltb, ltb-true}
 use Rattle.std.proofs.lemmas.Bool.{cases_lt}
 use Rattle.ssq_board.specs.declared.front.Cause.{Cause}
 use Rattle.ssq_board.specs.declared.front.Entry.TheVariants as entry
 use Rattle.ssq_board.specs.Core.{Core, after}
 use Rattle.ssq_board.specs.Shown.{Start, first, planned_by}
 use Rattle.ssq_board.specs.Rounds.{IsAtRest}
-use Rattle.ssq_board.proofs.Lists.{nat_lt-is, nat_lt-less}
 use Rattle.ssq_board.proofs.Resting.{first_rests}
 use Rattle.ssq_ledger.specs.Shown.{Shown, HasRisen, did}
 use Rattle.ssq_drive.specs.Driven.{StopsFor, IsDriven, no_file}
@@ -44,8 +43,8 @@ pub planned_found : (committed n : ℕ) → committed ≤ n → n ≤ committed 
 planned_found committed n before near = by (nat_lt committed n) refl
   where
     by : (b : Bool) → nat_lt committed n ≡ b → planned_by b committed ≡ n
-    by true is = (let less = nat_lt-less committed n is in omega (arith, less, near))
+    by true is = (let less = ltb-true committed n is in omega (arith, less, near))
     by false is = elim (cases_lt committed n) [
-      | inl less ↦ absurd (true≢false (sym (nat_lt-is committed n less) ∙ is))
+      | inl less ↦ absurd (true≢false (sym (lt-ltb committed n less) ∙ is))
       | inr most ↦ omega (arith, before, most)
     ]

@@ -1,9 +1,9 @@
 -- Digits in front of bytes, and the number that they are.
-use Rattle.std.proofs.Common.{◌≡◌, ℕ, suc, ◌+◌, ◌*◌, ◌-◌, ◌^◌, ◌<◌, ◌≤◌, Bool, true, false, List, [], ◌∷◌, ◌++◌, length, get_or, take, drop, Option, Some, None, IfSome, refl, sym, ap, ap₂, ◌∙◌, take-append-drop, arith, rules, inl, inr, cond, not, ◌==◌, ◌&&◌, add-one, drop-cons}
+use Rattle.std.proofs.Common.{◌≡◌, ℕ, suc, ◌+◌, ◌*◌, ◌-◌, ◌^◌, ◌<◌, ◌≤◌, Bool, true, false, List, [], ◌∷◌, ◌++◌, length, get_or, take, drop, Option, Some, None, IfSome, refl, sym, ap, ap₂, ◌∙◌, take-append-drop, arith, rules, inl, inr, cond, not, ◌==◌, add-one, drop-cons}
 use Rattle.std.specs.List.{prefix_len, list_all}
 use Rattle.std.specs.Fmt.{decimal}
 use Rattle.std.specs.Option.{SomeIff}
-use Rattle.std.proofs.lemmas.Bool.{both_ways, cases_lt}
+use Rattle.std.proofs.lemmas.Bool.{both_ways, cases_lt, and_parts}
 use Rattle.std.proofs.lemmas.Str.Parse.{IsNumeralModel, numerals_by_fold}
 use Rattle.std.proofs.lemmas.Fmt.{digits_decimal, digits_value-decimal, decimal_nonempty, first_decimal, decimal_digit, decimal-digits_value}
 use Rattle.std.proofs.lemmas.Bool.Decides.{nat_tests}
@@ -37,10 +37,6 @@ is_whole number i digits total past is = ap (number_after number) (sym (drop_all
 
 one-add : (n : ℕ) → 1 + n ≡ suc n
 one-add n = omega arith
-
-and_parts : (b c : Bool) → (b && c) ≡ true → (b ≡ true) × (c ≡ true)
-and_parts true c both = (refl, both)
-and_parts false c both = absurd cc
 
 pass : (byte : ℕ) (bytes : List ℕ) (b : Bool) → is_digit byte ≡ b → list_all is_digit (take (prefix_len is_digit bytes) bytes) ≡ true → list_all is_digit (take (cond b (1 + prefix_len is_digit bytes) 0) (byte ∷ bytes)) ≡ true
 pass byte bytes true is rest = rw one-add (rw (is, rest) refl)

@@ -1,5 +1,5 @@
 -- Between epochs all tasks are back.
-use Rattle.std.proofs.Common.{◌≡◌, ◌⊎◌, ◌≤◌, ◌+◌, ℕ, zero, suc, Bool, true, false, true≢false, List, [], ◌∷◌, length, map, replicate, set, Option, Some, None, nat_lt, ◌&&◌, sym, refl, ap, ◌∙◌, subst, inl, inr, arith}
+use Rattle.std.proofs.Common.{◌≡◌, ◌⊎◌, ◌≤◌, ◌+◌, ℕ, zero, suc, Bool, true, false, true≢false, List, [], ◌∷◌, length, map, replicate, set, Option, Some, None, nat_lt, ◌&&◌, sym, refl, ap, ◌∙◌, subst, inl, inr, arith, lt-ltb}
 use Rattle.std.specs.List.{list_all}
 use Rattle.std.proofs.lemmas.Bool.{and_parts}
 use mathlib.Core.Option.{some, some-injective, some-ne-none}
@@ -15,7 +15,6 @@ use Rattle.ssq_board.specs.declared.front.Entry.{Entry}
 use Rattle.ssq_board.specs.declared.front.Entry.TheVariants as entry
 use Rattle.ssq_board.specs.Core.{Scope, Core, May, after, is_fine, is_open, may_start, tasks_of, with_tasks, with_front, stopped_front, or_stop, due}
 use Rattle.ssq_board.specs.Shown.{Start, IsStart, IsSound, first, first_by}
-use Rattle.ssq_board.proofs.Lists.{nat_lt-is}
 use Rattle.ssq_board.proofs.Sounds.{step_sound, first_sound}
 use Rattle.ssq_board.specs.Follows.{State, Leads}
 use Rattle.ssq_ledger.specs.Shown.{AreBack}
@@ -43,7 +42,7 @@ away_fine : is_fine place.Away ≡ true → ⊥
 away_fine e = true≢false (sym e)
 
 open_after : (c : Core) → c.front.committed ≤ c.front.planned → nat_lt c.front.committed (c.front.planned + 1) ≡ false → ⊥
-open_after c le e = true≢false (sym (nat_lt-is c.front.committed (c.front.planned + 1) (omega (arith, le))) ∙ e)
+open_after c le e = true≢false (sym (lt-ltb c.front.committed (c.front.planned + 1) (omega (arith, le))) ∙ e)
 
 never : {A : Type 0} (c : Core) → is_open c ≡ true → is_open c ≡ false → A
 never c e f = absurd (true≢false (sym e ∙ f))
@@ -102,7 +101,7 @@ first_last : (r : Scope) (s : Start) → IsLast (first r s)
 first_last r s = by_planned s.is_planned
   where
     by_planned : (b : Bool) → IsLast (first_by b r s)
-    by_planned true = record { out = λ o. absurd (waits_out o); between = λ e. absurd (true≢false (sym (nat_lt-is s.committed (s.committed + 1) (omega arith)) ∙ e)) }
+    by_planned true = record { out = λ o. absurd (waits_out o); between = λ e. absurd (true≢false (sym (lt-ltb s.committed (s.committed + 1) (omega arith)) ∙ e)) }
     by_planned false = record { out = λ o. record { maps = rest_fine s.to; reduces = all_rest r.partitions }; between = λ e. record { maps = rest_fine s.to; reduces = all_rest r.partitions } }
 
 run_last : (tells : Type 0) (job : Job) (r : Scope) (next : Cuts → ℕ → Bool) (es : List Entry) (a n : State) → Leads tells job r next a es n → IsSound r a.core → IsBackWritten a.core → IsLast a.core → IsLast n.core
@@ -147,7 +146,7 @@ first_out : (r : Scope) (s : Start) → IsOutBack (first r s)
 first_out r s = by_planned s.is_planned
   where
     by_planned : (b : Bool) → IsOutBack (first_by b r s)
-    by_planned true = λ closed. absurd (true≢false (sym (nat_lt-is s.committed (s.committed + 1) (omega arith)) ∙ closed))
+    by_planned true = λ closed. absurd (true≢false (sym (lt-ltb s.committed (s.committed + 1) (omega arith)) ∙ closed))
     by_planned false = λ closed. refl
 
 run_out : (tells : Type 0) (job : Job) (r : Scope) (next : Cuts → ℕ → Bool) (es : List Entry) (a n : State) → Leads tells job r next a es n → IsSound r a.core → IsBackWritten a.core → IsOutBack a.core → IsOutBack n.core

@@ -1,5 +1,5 @@
 -- The next plan, and why there is none.
-use Rattle.std.proofs.Common.{◌≡◌, ◌≤◌, ◌+◌, ℕ, ℤ, false, true≢false, Option, Some, None, if◌then◌else◌, refl, sym, ap, ◌∙◌, subst, arith}
+use Rattle.std.proofs.Common.{◌≡◌, ◌≤◌, ◌+◌, ℕ, ℤ, false, true≢false, Option, Some, None, if◌then◌else◌, refl, sym, ap, ◌∙◌, subst, arith, le-ltb, lt-ltb}
 use Rattle.ssq_outside.specs.Faults.{Rises}
 use Rattle.ssq_outside.specs.declared.disk.DiskError.{DiskError}
 use Rattle.ssq_outside.specs.declared.disk.DiskError.TheVariants as disk
@@ -13,14 +13,13 @@ use Rattle.ssq_board.specs.declared.front.Ready.TheVariants as ready
 use Rattle.ssq_board.specs.Causes.{cause_of_disk}
 use Rattle.ssq_board.specs.Core.{Scope, Core, May, HasCause, after, cuts_by, extended, is_stopped, next_ends, ready_of}
 use Rattle.ssq_board.specs.Shown.{IsSound}
-use Rattle.ssq_board.proofs.Lists.{nat_lt-is, nat_lt-not}
 use Rattle.ssq_board.proofs.Readies.{full_is, past}
 use Rattle.ssq_board.proofs.Sounds.{step_sound}
 use Rattle.ssq_ledger.specs.Shown.{HasRisen, IsNoPlan, IsUnplanned, TellsPlans}
 
 -- the next cut changes none before it
 before_next : (cuts : Cuts) (n : ℕ) (ends : Ends) (e : ℕ) → e ≤ n → cuts e ≡ extended cuts n ends e
-before_next cuts n ends e le = sym (ap (λ b. if b then ends else cuts e) (nat_lt-not n e le))
+before_next cuts n ends e le = sym (ap (λ b. if b then ends else cuts e) (le-ltb n e le))
 
 -- so the plan that the ledger writes is the true one of its name
 pub plan_true : (job : Job) (r : Scope) (c : Core) (cuts : Cuts) (w : Option ℤ) → TellsPlans job → w ≡ (job.course cuts).watermark c.front.planned
@@ -30,7 +29,7 @@ plan_true job r c cuts w tells is =
     let ends = next_ends r.cap c.ends r.available in
     let next = extended cuts n ends in
     let mark : w ≡ (job.course next).watermark n = is ∙ tells.watermark cuts next n (λ e le. before_next cuts n ends e le) in
-    let last : next (n + 1) ≡ ends = ap (λ b. if b then ends else cuts (n + 1)) (nat_lt-is n (n + 1) (omega arith)) in
+    let last : next (n + 1) ≡ ends = ap (λ b. if b then ends else cuts (n + 1)) (lt-ltb n (n + 1) (omega arith)) in
     let end : ends ≡ (job.course next).ends (n + 1) = sym (tells.ends next (n + 1) ∙ last) in
     (λ i. plan_text (record { epoch = n; watermark = mark i; ends = end i }))
 

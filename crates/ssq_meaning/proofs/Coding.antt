@@ -12,6 +12,7 @@ use Rattle.std.specs.List.Sorted.{IsStrictlySortedBy}
 use Rattle.std.specs.Map.{lookup}
 use Rattle.std.specs.Ordering.{nat_cmp, is_eq, is_lt}
 use Rattle.std.proofs.lemmas.Cmp.{tied_itself}
+use Rattle.std.proofs.lemmas.Bool.{or_right}
 use Rattle.ssq_value.specs.Key.{keys_of, IsSpelled}
 use Rattle.ssq_shape.specs.declared.bound.Bound.{Bound}
 use Rattle.ssq_shape.specs.declared.bound.Grouping.{Grouping}
@@ -139,10 +140,6 @@ repeats_found apart query columns rows now key spelled all =
 
 -- ---- each key that is kept is a row's
 
-either_true : (a b : Bool) → b ≡ true → (a || b) ≡ true
-either_true true b is = refl
-either_true false b is = is
-
 first_true : (a b : Bool) → (a && b) ≡ true → a ≡ true
 first_true true b is = refl
 first_true false b is = absurd cc
@@ -156,7 +153,7 @@ entry_among value q v (key ∷ keys) is = by (is_eq (by_bytes q (keys_of key))) 
         → (other : Values) × (q ≡ keys_of other) × ((is_same other key || list_any (is_same other) keys) ≡ true)
     by true at has rest =
         (key, slice_cmp-IsAntisymmetric nat_cmp-IsAntisymmetric q (keys_of key) (is_equal (by_bytes q (keys_of key)) at), ap (λ b. b || list_any (is_same key) keys) (same_itself key))
-    by false apart has rest = let found = rest has in (found.0, found.1, either_true (is_same found.0 key) (list_any (is_same found.0) keys) found.2)
+    by false apart has rest = let found = rest has in (found.0, found.1, or_right (is_same found.0 key) (list_any (is_same found.0) keys) found.2)
 
 pub repeats_own : (query : Bound) (columns : List ℕ) (rows : List FedRow) (now : Option ℤ) (q v : List ℕ) → lookup (is_at (by_bytes q)) (repeats.kept query columns rows now) ≡ Some v
     → (key : Values) × (q ≡ keys_of key) × (has_key rows key ≡ true)

@@ -3,6 +3,8 @@ use Rattle.std.proofs.Common.{◌≡◌, ◌+ℤ◌, int_le, [], ◌∷◌, ℤ,
 use Rattle.std.specs.Prelude.{◌&&◌, ◌||◌, not, IfSome}
 use Rattle.std.specs.List.{AllByRecursion}
 use Rattle.std.proofs.lemmas.Int.{ints}
+use Rattle.std.proofs.lemmas.Bool.{and_parts}
+use borrow.Author.Tests.{not-true}
 use Rattle.ssq_shape.specs.declared.bound.Joining.{Joining}
 use Rattle.ssq_shape.specs.declared.bound.TimeBound.{TimeBound}
 use Rattle.ssq_meaning.specs.FedRows.{FedRow}
@@ -11,15 +13,6 @@ use Rattle.ssq_meaning.specs.JoinLaws.{IsAround, IsBounded}
 use Rattle.ssq_meaning.specs.Meaning.{is_true_answer}
 use Rattle.ssq_meaning.specs.Times.{AtMost, is_past}
 use Rattle.ssq_meaning.proofs.Grouped.{past_stays}
-
-pub both_true : (a b : Bool) → (a && b) ≡ true → (a ≡ true) × (b ≡ true)
-both_true true true is = (refl, refl)
-both_true true false is = absurd cc
-both_true false b is = absurd cc
-
-not_true : (b : Bool) → not b ≡ true → b ≡ false
-not_true true is = absurd cc
-not_true false is = refl
 
 -- ---- times
 
@@ -31,7 +24,7 @@ near_left (Some bound) None left right near timely = refl
 near_left (Some bound) (Some w) None right near timely = absurd cc
 near_left (Some bound) (Some w) (Some l) None near timely = absurd cc
 near_left (Some bound) (Some w) (Some l) (Some r) near timely =
-    let high : int_le r (l +ℤ bound.hi) ≡ true = (both_true (int_le (l +ℤ bound.lo) r) (int_le r (l +ℤ bound.hi)) near).1 in
+    let high : int_le r (l +ℤ bound.hi) ≡ true = (and_parts (int_le (l +ℤ bound.lo) r) (int_le r (l +ℤ bound.hi)) near).1 in
     grind (arith, ints, high, timely)
 
 near_right : (bound : Option TimeBound) (now left right : Option ℤ) → is_near bound left right ≡ true → is_past now left ≡ false → is_past now (last_time bound false right) ≡ false
@@ -41,7 +34,7 @@ near_right (Some bound) None left right near timely = refl
 near_right (Some bound) (Some w) None right near timely = absurd cc
 near_right (Some bound) (Some w) (Some l) None near timely = absurd cc
 near_right (Some bound) (Some w) (Some l) (Some r) near timely =
-    let low : int_le (l +ℤ bound.lo) r ≡ true = (both_true (int_le (l +ℤ bound.lo) r) (int_le r (l +ℤ bound.hi)) near).0 in
+    let low : int_le (l +ℤ bound.lo) r ≡ true = (and_parts (int_le (l +ℤ bound.lo) r) (int_le r (l +ℤ bound.hi)) near).0 in
     grind (arith, ints, low, timely)
 
 -- the last time of a row whose own is not past is not
@@ -74,16 +67,16 @@ module _ (joining : Joining) (before now : Option ℤ) (rises : AtMost before no
 -- a left row that meets the bound with a row that is not late is not over, and so a right one
 pub left_opens : (joining : Joining) (now : Option ℤ) (row other : FedRow) → is_candidate joining row other ≡ true → is_past now other.time ≡ false → is_over joining now row ≡ false
 left_opens joining now row other is timely =
-    let parts = both_true (is_left row.stream && not (is_left other.stream)) (have_equal_keys row other && is_near joining.bound row.time other.time) is in
-    let left = (both_true (is_left row.stream) (not (is_left other.stream)) parts.0).0 in
-    let near = (both_true (have_equal_keys row other) (is_near joining.bound row.time other.time) parts.1).1 in
+    let parts = and_parts (is_left row.stream && not (is_left other.stream)) (have_equal_keys row other && is_near joining.bound row.time other.time) is in
+    let left = (and_parts (is_left row.stream) (not (is_left other.stream)) parts.0).0 in
+    let near = (and_parts (have_equal_keys row other) (is_near joining.bound row.time other.time) parts.1).1 in
     ap (λ side. is_past now (last_time joining.bound side row.time)) left ∙ near_left joining.bound now row.time other.time near timely
 
 pub right_opens : (joining : Joining) (now : Option ℤ) (row other : FedRow) → is_candidate joining other row ≡ true → is_past now other.time ≡ false → is_over joining now row ≡ false
 right_opens joining now row other is timely =
-    let parts = both_true (is_left other.stream && not (is_left row.stream)) (have_equal_keys other row && is_near joining.bound other.time row.time) is in
-    let right = not_true (is_left row.stream) (both_true (is_left other.stream) (not (is_left row.stream)) parts.0).1 in
-    let near = (both_true (have_equal_keys other row) (is_near joining.bound other.time row.time) parts.1).1 in
+    let parts = and_parts (is_left other.stream && not (is_left row.stream)) (have_equal_keys other row && is_near joining.bound other.time row.time) is in
+    let right = not-true (is_left row.stream) (and_parts (is_left other.stream) (not (is_left row.stream)) parts.0).1 in
+    let near = (and_parts (have_equal_keys other row) (is_near joining.bound other.time row.time) parts.1).1 in
     ap (λ side. is_past now (last_time joining.bound side row.time)) right ∙ near_right joining.bound now other.time row.time near timely
 
 module _ (joining : Joining) (now : Option ℤ) (row : FedRow) (over : is_over joining now row ≡ true) where

@@ -4,6 +4,7 @@ use Rattle.std.specs.Prelude.{◌==◌, ◌&&◌, ◌||◌, not, filter_map, if�
 use Rattle.std.specs.List.{flat_map, list_any, range_with_len}
 use Rattle.std.specs.List.Sorted.{IsPermutation}
 use Rattle.std.proofs.lemmas.List.Elements.{filter-append, filter_map-append}
+use Rattle.std.proofs.lemmas.Bool.{and_parts}
 use Rattle.ssq_value.specs.Key.{keys_of}
 use Rattle.ssq_route.specs.Place.{place_of}
 use Rattle.ssq_shape.specs.declared.bound.Bound.{Bound}
@@ -17,7 +18,6 @@ use Rattle.ssq_meaning.specs.Meaning.{Values, is_true_answer}
 use Rattle.ssq_meaning.specs.Operator.{join}
 use Rattle.ssq_meaning.proofs.Keys.{filter_turned, filter_within, same_is}
 use Rattle.ssq_meaning.proofs.Leasts.{is_least, only_least}
-use Rattle.ssq_meaning.proofs.Nearby.{both_true}
 use Rattle.ssq_meaning.proofs.Parted.{least_of_leasts}
 use Rattle.ssq_meaning.proofs.Shuffled.{least_shuffled, shown_shuffled}
 use Rattle.ssq_meaning.proofs.Together.{all_together, at_place}
@@ -26,16 +26,16 @@ use Rattle.ssq_meaning.proofs.Together.{all_together, at_place}
 
 pub same_keys : (joining : Joining) (left right : FedRow) → is_candidate joining left right ≡ true → left.key ≡ right.key
 same_keys joining left right is =
-    let parts = both_true (is_left left.stream && not (is_left right.stream)) (have_equal_keys left right && is_near joining.bound left.time right.time) is in
-    let equal = (both_true (have_equal_keys left right) (is_near joining.bound left.time right.time) parts.1).0 in
-    same_is left.key right.key (both_true (is_same left.key right.key) (not (list_any is_null left.key)) equal).0
+    let parts = and_parts (is_left left.stream && not (is_left right.stream)) (have_equal_keys left right && is_near joining.bound left.time right.time) is in
+    let equal = (and_parts (have_equal_keys left right) (is_near joining.bound left.time right.time) parts.1).0 in
+    same_is left.key right.key (and_parts (is_same left.key right.key) (not (list_any is_null left.key)) equal).0
 
 pub partner_keys : (joining : Joining) (row other : FedRow) → is_partner joining row other ≡ true → row.key ≡ other.key
 partner_keys joining row other is = by (is_pair joining row other) refl is
   where
     by : (b : Bool) → is_pair joining row other ≡ b → (b || is_pair joining other row) ≡ true → row.key ≡ other.key
-    by true first is = same_keys joining row other (both_true (is_candidate joining row other) (is_true_answer (is_on joining row other)) first).0
-    by false first is = sym (same_keys joining other row (both_true (is_candidate joining other row) (is_true_answer (is_on joining other row)) is).0)
+    by true first is = same_keys joining row other (and_parts (is_candidate joining row other) (is_true_answer (is_on joining row other)) first).0
+    by false first is = sym (same_keys joining other row (and_parts (is_candidate joining other row) (is_true_answer (is_on joining other row)) is).0)
 
 -- ---- tests
 

@@ -6,6 +6,7 @@ use Rattle.std.proofs.Math.ListN.{get_or-append}
 use Rattle.std.proofs.Math.Seq.{get_or-append_seam}
 use Rattle.std.proofs.lemmas.Bool.{and_parts, ltb-true}
 use Rattle.std.proofs.lemmas.List.Elements.{All-nil, All-same, All-push, All-weaker}
+use Rattle.std.proofs.lemmas.List.{length_push}
 use Rattle.ssq_time.specs.Time.{IsStampTime}
 use Rattle.ssq_plans.specs.declared.meta.Meta.{Meta}
 use Rattle.ssq_plans.specs.declared.plan.Plan.{Plan}
@@ -23,7 +24,7 @@ use Rattle.ssq_open.specs.Opening.{CanBeSought, first_meta, first_short}
 use Rattle.ssq_open.specs.Epochs.{starts, follows, is_next, is_own, no_plan, cut_of, last_ends}
 use Rattle.ssq_open.specs.Numbers.{ArePlansInOrder, AreTimesInOrder, AreEpochsInOrder, IsCheckedInOrder, IsInOrder}
 use Rattle.ssq_open.proofs.Walks.{short-none}
-use Rattle.ssq_open.proofs.Planning.{below_next, longer}
+use Rattle.ssq_open.proofs.Planning.{below_next}
 use Rattle.ssq_open.proofs.Beginning.{first_is}
 
 -- a watermark that can be printed
@@ -51,8 +52,8 @@ next_follows before e p next = (and_parts (p.epoch == e && nat_lt e 4294967295) 
 pub plans_next : (first : List PartEnd) (plans : List Plan) (e : ℕ) (p : Plan) → length plans ≡ e → ArePlansInOrder first plans → IsTrue (is_next (last_ends first plans) e p) → IsPlan p
     → ArePlansInOrder first (plans ++ p ∷ [])
 plans_next first plans e p count order next is = record {
-  few = omega (arith, longer plans p, count, next_below (last_ends first plans) e p next);
-  follow = λ f less. below_next (Follows first (plans ++ p ∷ [])) (length plans) before here f (omega (arith, less, longer plans p));
+  few = omega (arith, length_push plans p, count, next_below (last_ends first plans) e p next);
+  follow = λ f less. below_next (Follows first (plans ++ p ∷ [])) (length plans) before here f (omega (arith, less, length_push plans p));
   marks = All-push Printed plans p order.marks is.1;
 }
   where

@@ -1,6 +1,6 @@
 -- What the listing says of the files that are not read.
-use Rattle.std.proofs.Common.{◌≡◌, ◌⊎◌, ◌<◌, ◌≤◌, ◌+◌, ℕ, true, List, Option, Some, None, refl, sym, inl, inr, arith}
-use Rattle.std.specs.Prelude.{Contains, IsTrue, IfNone, IfSome, nat_le}
+use Rattle.std.proofs.Common.{◌≡◌, ◌⊎◌, ◌<◌, ◌≤◌, ◌+◌, ℕ, List, Option, Some, None, refl, sym, inl, inr, arith, le-leb, leb-true}
+use Rattle.std.specs.Prelude.{Contains, IsTrue, IfNone, IfSome}
 use Rattle.std.specs.List.{find}
 use Rattle.std.proofs.lemmas.Bool.{cases_lt}
 use Rattle.std.proofs.lemmas.Bool.Decides.{nat_tests}
@@ -12,12 +12,6 @@ use Rattle.ssq_open.specs.Epochs.{IsThere, IsSinkRight, IsFirstBad, is_stray, Ha
 use Rattle.ssq_open.specs.Refused.{CommitsPassed, IsFirstStray, SinksRefuse, StrayRefuses}
 use Rattle.ssq_open.specs.declared.fault.OpenFault.TheVariants.{Damaged}
 use Rattle.ssq_open.proofs.Finding.{none_passes, found_contained, found_before}
-
-from_to : (n e : ℕ) → n ≤ e → nat_le n e ≡ true
-from_to n e less = grind (arith, nat_tests)
-
-from_below : (n e : ℕ) → nat_le n e ≡ true → n ≤ e
-from_below n e is = grind (arith, nat_tests)
 
 commit_order : (e f : ℕ) → (name.Commit f ≡ name.Commit e) ⊎ IsTrue (name_before (name.Commit e) (name.Commit f)) → e ≤ f
 commit_order e f (inl same) = let is : f ≡ e = commit_same f e same in omega (arith, is)
@@ -42,9 +36,9 @@ commit_passed files names n (name.Commit e) are found =
     let has = found_contained (is_commit_from n) names (name.Commit e) found in (
       e,
       refl,
-      from_below n e has.1,
+      leb-true n e has.1,
       are.there (name.Commit e) has.0,
-      λ f less there. commit_order e f (found_before (is_commit_from n) names (name.Commit e) (name.Commit f) are.in_order found (are.all (name.Commit f) there) (from_to n f less)),
+      λ f less there. commit_order e f (found_before (is_commit_from n) names (name.Commit e) (name.Commit f) are.in_order found (are.all (name.Commit f) there) (le-leb n f less)),
     )
 commit_passed files names n name.Meta are found = let no = (found_contained (is_commit_from n) names name.Meta found).1 in cc
 commit_passed files names n (name.Plan e) are found = let no = (found_contained (is_commit_from n) names (name.Plan e) found).1 in cc
@@ -53,7 +47,7 @@ commit_passed files names n (name.Delta p v) are found = let no = (found_contain
 commit_passed files names n (name.Snapshot p v) are found = let no = (found_contained (is_commit_from n) names (name.Snapshot p v) found).1 in cc
 
 pub no_commit : (files : Files) (names : List Name) (n : ℕ) → AreNames files names → find (is_commit_from n) names ≡ None → (e : ℕ) → n ≤ e → IsThere files (name.Commit e) → ⊥
-no_commit files names n are none e less there = none_passes (is_commit_from n) names (name.Commit e) none (are.all (name.Commit e) there) (from_to n e less)
+no_commit files names n are none e less there = none_passes (is_commit_from n) names (name.Commit e) none (are.all (name.Commit e) there) (le-leb n e less)
 
 -- the sink files are right below the first that is missing
 right_below : (files : Files) (names : List Name) (n k w f : ℕ) → AreNames files names → ((e : ℕ) → e < w → Contains names (name.Out e)) → f < w → f < k → IsSinkRight files n k f
@@ -85,7 +79,7 @@ sinks_right files names n k w are there all below ahead none e = sink_right file
   where
     by_place : IsThere files (name.Out e) → (e < n) ⊎ (n ≤ e) → e < n
     by_place is (inl less) = less
-    by_place is (inr no_less) = absurd (none_passes (is_out_from n) names (name.Out e) none (are.all (name.Out e) is) (from_to n e no_less))
+    by_place is (inr no_less) = absurd (none_passes (is_out_from n) names (name.Out e) none (are.all (name.Out e) is) (le-leb n e no_less))
 
 -- the first sink file from n on
 abbrev pub IsFirstSink : Files → ℕ → ℕ → Name → Type 0
@@ -95,7 +89,7 @@ pub sink_passed : (files : Files) (names : List Name) (n k w : ℕ) (at : Name) 
     → find (is_out_from n) names ≡ Some at → IsFirstSink files n k at
 sink_passed files names n k w (name.Out e) are there all below ahead found =
     let has = found_contained (is_out_from n) names (name.Out e) found in
-    let from : n ≤ e = from_below n e has.1 in (
+    let from : n ≤ e = leb-true n e has.1 in (
       e,
       refl,
       record {
@@ -107,7 +101,7 @@ sink_passed files names n k w (name.Out e) are there all below ahead found =
     by_place : (f : ℕ) → f < e → IsThere files (name.Out f) → (f < n) ⊎ (n ≤ f) → f < n
     by_place f less is (inl early) = early
     by_place f less is (inr late) =
-        let above : e ≤ f = out_order e f (found_before (is_out_from n) names (name.Out e) (name.Out f) are.in_order found (are.all (name.Out f) is) (from_to n f late)) in
+        let above : e ≤ f = out_order e f (found_before (is_out_from n) names (name.Out e) (name.Out f) are.in_order found (are.all (name.Out f) is) (le-leb n f late)) in
         absurd (omega (arith, above, less))
 
     too_late : n ≤ e → (e < k) ⊎ ((e ≡ k) × (k < n)) → ⊥

@@ -4,7 +4,7 @@ use Rattle.std.specs.Prelude.{IsTrue}
 use Rattle.std.proofs.lemmas.Bool.{cases_lt}
 use Rattle.std.proofs.Math.ListN.{get_or-append}
 use Rattle.std.proofs.Math.Seq.{get_or-append_seam}
-use Rattle.std.proofs.lemmas.List.{length-append, get_or_default}
+use Rattle.std.proofs.lemmas.List.{get_or_default, length_push}
 use Rattle.ssq_outside.specs.declared.name.Name.TheVariants as name
 use Rattle.ssq_outside.specs.Files.{Files}
 use Rattle.ssq_plans.specs.declared.plan.Plan.{Plan}
@@ -26,16 +26,13 @@ below_next Good n before here f less = elim (cases_lt f n) [
   | inr not_earlier ↦ let same : n ≡ f = omega (arith, less, not_earlier) in subst Good same here
 ]
 
-pub longer : {X : Type 0} (xs : List X) (x : X) → length (xs ++ x ∷ []) ≡ length xs + 1
-longer xs x = length-append xs (x ∷ [])
-
 -- what holds of each element at its place, and of one more at the end
 pub pushed : {X : Type 0} (Good : ℕ → X → Type 0) (xs : List X) (x : X) → ((e : ℕ) (default : X) → e < length xs → Good e (get_or xs e default)) → Good (length xs) x
     → (e : ℕ) (default : X) → e < length (xs ++ x ∷ []) → Good e (get_or (xs ++ x ∷ []) e default)
 pushed Good xs x each here e default less = elim (cases_lt e (length xs)) [
   | inl earlier ↦ subst (Good e) (sym (get_or-append xs (x ∷ []) default e earlier)) (each e default earlier)
   | inr not_earlier ↦
-      let last : length xs ≡ e = omega (arith, less, not_earlier, longer xs x) in
+      let last : length xs ≡ e = omega (arith, less, not_earlier, length_push xs x) in
       subst (λ n. Good n (get_or (xs ++ x ∷ []) n default)) last (subst (Good (length xs)) (sym (get_or-append_seam xs x [] default)) here)
 ]
 
@@ -61,7 +58,7 @@ planned_next files first plans e p count planned is next =
     let here = subst I (sym count) is in
     let good : IsGoodPlan files first (length plans) = record { before = last_ends first plans; plan = p; after = (planned_to files first plans (length plans) refl planned).end; is = here; next = subst T (sym count) next } in
     record {
-      good = λ f less. below_next (IsGoodPlan files first) (length plans) planned.good good f (omega (arith, less, longer plans p));
+      good = λ f less. below_next (IsGoodPlan files first) (length plans) planned.good good f (omega (arith, less, length_push plans p));
       spelled = pushed (IsThePlan files) plans p planned.spelled here;
     }
 
@@ -105,7 +102,7 @@ pub committed_next : (streams : List Watermarked) (files : Files) (e : ℕ) (mar
     → IsTrue (is_own streams e c) → AreCommitted streams files (e + 1) (marks ++ mark_by streams c.seen ∷ []) c.seen
 committed_next streams files e marks seen c committed is own = record {
   good = below_next (IsGoodCommit streams files) e committed.good (record { commit = c; is = is; own = own });
-  count = longer marks (mark_by streams c.seen) ∙ ap (λ n. n + 1) committed.count;
+  count = length_push marks (mark_by streams c.seen) ∙ ap (λ n. n + 1) committed.count;
   each = pushed (IsMarkAt streams files) marks (mark_by streams c.seen) committed.each (record { seen = c.seen; over = by_commit e c committed.count is refl; is = refl });
   last = by_commit e c refl is refl;
 }

@@ -1,8 +1,9 @@
 -- A checkpoint that stands for the job that is wanted passes, and a desk opens on it with what is found.
-use Rattle.std.proofs.Common.{◌≡◌, ◌⊎◌, ◌<◌, ◌≤◌, ◌+◌, ◌∙◌, ◌==◌, ◌&&◌, ◌++◌, ◌^◌, [], ◌∷◌, zero, suc, ℕ, Bool, true, false, List, ℤ, Option, Some, None, Result, Ok, Err, refl, sym, ap, subst, inl, inr, arith, length, get_or, eq-eqb}
+use Rattle.std.proofs.Common.{◌≡◌, ◌⊎◌, ◌<◌, ◌≤◌, ◌+◌, ◌∙◌, ◌==◌, ◌&&◌, ◌++◌, ◌^◌, [], ◌∷◌, zero, suc, ℕ, Bool, true, false, List, ℤ, Option, Some, None, Result, Ok, Err, refl, sym, ap, subst, inl, inr, arith, length, get_or, eq-eqb, lt-ltb, ltb-true}
 use Rattle.std.specs.Prelude.{IsTrue, IsSome, is_some, not, nat_lt, IfOk, IfErr}
 use Rattle.std.proofs.lemmas.Bool.{cases_lt, and_parts}
 use Rattle.std.proofs.lemmas.Bool.Decides.{nat_tests}
+use Rattle.std.proofs.lemmas.List.{length_push}
 use Rattle.ssq_outside.specs.declared.name.Name.{Name}
 use Rattle.ssq_outside.specs.declared.name.Name.TheVariants as name
 use Rattle.ssq_outside.specs.Files.{Files, IsEmpty}
@@ -38,19 +39,13 @@ use Rattle.ssq_open.specs.Jobs.{IsWantedJob, IsJobs, is_empty, stands, IsDeskOf,
 use Rattle.ssq_open.specs.Looking.{Query, begins, IsDenied, IsLookedFor, IsRecordDenied}
 use Rattle.ssq_open.proofs.Looks.{meta_denied, not_denied}
 use Rattle.ssq_open.proofs.Walks.{short-none}
-use Rattle.ssq_open.proofs.Planning.{pushed, longer, no_mark}
+use Rattle.ssq_open.proofs.Planning.{pushed, no_mark}
 use Rattle.ssq_open.proofs.Reading.{the_only}
 use Rattle.ssq_open.proofs.Passing.{one_finding, not_refused}
 use Rattle.ssq_open.proofs.Stated.{AreLaws, keeping_few, makes_states}
 
-below : (e n : ℕ) → e < n → nat_lt e n ≡ true
-below e n less = grind (arith, nat_tests)
-
-below_is : (e n : ℕ) → nat_lt e n ≡ true → e < n
-below_is e n is = grind (arith, nat_tests)
-
 next_is : (e n : ℕ) (follow : Bool) → e < n → follow ≡ true → (e == e && nat_lt e n && follow) ≡ true
-next_is e n follow less is = let same : (e == e) ≡ true = eq-eqb e e refl in let lower = below e n less in rw (same, lower, is) refl
+next_is e n follow less is = let same : (e == e) ≡ true = eq-eqb e e refl in let lower = lt-ltb e n less in rw (same, lower, is) refl
 
 own_is : (e : ℕ) (lines : Bool) → lines ≡ true → (e == e && lines) ≡ true
 own_is e lines is = let same : (e == e) ≡ true = eq-eqb e e refl in rw (same, is) refl
@@ -66,7 +61,7 @@ first_plans course (suc n) = first_plans course n ++ plan_of course n ∷ []
 
 pub plans_count : (course : Course) (n : ℕ) → length (first_plans course n) ≡ n
 plans_count course zero = refl
-plans_count course (suc n) = longer (first_plans course n) (plan_of course n) ∙ ap (λ m. m + 1) (plans_count course n) ∙ omega arith
+plans_count course (suc n) = length_push (first_plans course n) (plan_of course n) ∙ ap (λ m. m + 1) (plans_count course n) ∙ omega arith
 
 pub plans_each : (course : Course) (n e : ℕ) (default : Plan) → e < length (first_plans course n) → get_or (first_plans course n) e default ≡ plan_of course e
 plans_each course zero e default less = absurd (omega (arith, less))
@@ -94,12 +89,12 @@ module _ (s : Sought) (job : Job) (w : IsWantedJob s job) (files : Files) (st : 
 
   the_plan : (e : ℕ) → e < st.planned → IsThePlan files e (plan_of course e)
   the_plan e less =
-      the_only IsPlan plan_text (files (name.Plan e)) (plan_of course e) records_apart.plans (w.plans st.cuts st.planned e st.proper few less) (file (name.Plan e) (st.at.needed (name.Plan e) (below e st.planned less)))
+      the_only IsPlan plan_text (files (name.Plan e)) (plan_of course e) records_apart.plans (w.plans st.cuts st.planned e st.proper few less) (file (name.Plan e) (st.at.needed (name.Plan e) (lt-ltb e st.planned less)))
 
   the_commit : (e : ℕ) → e < st.committed → IsTheCommit files e (commit_of course e)
   the_commit e less =
       let can = w.commits st.cuts st.planned e st.proper few (omega (arith, less, st.at.reached.planned_first)) in
-      the_only IsCommit commit_text (files (name.Commit e)) (commit_of course e) records_apart.commits can (file (name.Commit e) (st.at.needed (name.Commit e) (below e st.committed less)))
+      the_only IsCommit commit_text (files (name.Commit e)) (commit_of course e) records_apart.commits can (file (name.Commit e) (st.at.needed (name.Commit e) (lt-ltb e st.committed less)))
 
   ends_at : (e : ℕ) → e < st.planned → AreEndsAt files (starts s.found) e (st.cuts e)
   ends_at zero less = at_start refl (w.start st.cuts 0 (st.proper 0 less))
@@ -127,8 +122,8 @@ module _ (s : Sought) (job : Job) (w : IsWantedJob s job) (files : Files) (st : 
 
   sink_right : (e : ℕ) → IsSinkRight files st.planned st.committed e
   sink_right e = record {
-    needed = λ less. st.at.needed (name.Out e) (below e st.committed less);
-    taken = λ there. by_place (below_is e st.planned (st.at.allowed (name.Out e) there)) (cases_lt e st.committed);
+    needed = λ less. st.at.needed (name.Out e) (lt-ltb e st.committed less);
+    taken = λ there. by_place (ltb-true e st.planned (st.at.allowed (name.Out e) there)) (cases_lt e st.committed);
   }
     where
       by_place : e < st.planned → (e < st.committed) ⊎ (st.committed ≤ e) → (e < st.committed) ⊎ ((e ≡ st.committed) × (st.committed < st.planned))
@@ -179,7 +174,7 @@ module _ (s : Sought) (job : Job) (w : IsWantedJob s job) (files : Files) (st : 
   progress : IsProgress s.streams files (starts s.found) plans st.committed (first_seen course st.committed)
   progress = record {
     are_plans = record {
-      all = λ e there. omega (arith, count, below_is e st.planned (st.at.allowed (name.Plan e) there));
+      all = λ e there. omega (arith, count, ltb-true e st.planned (st.at.allowed (name.Plan e) there));
       good = λ e less. good_plan e (omega (arith, less, count));
     };
     spelled = spelled;
@@ -187,7 +182,7 @@ module _ (s : Sought) (job : Job) (w : IsWantedJob s job) (files : Files) (st : 
       below = omega (arith, count, st.at.reached.planned_first);
       ahead = omega (arith, count, st.at.reached.one_ahead);
       good = good_commit;
-      all = λ e there. below_is e st.committed (st.at.allowed (name.Commit e) there);
+      all = λ e there. ltb-true e st.committed (st.at.allowed (name.Commit e) there);
     };
     marked = λ e less. marked_at e (omega (arith, less, count));
     last = seen_at st.committed (omega arith);
@@ -262,7 +257,7 @@ module _ (s : Sought) (job : Job) (w : IsWantedJob s job) (files : Files) (st : 
     needed = st.at.needed;
     allowed = λ q there. subst (λ (n : ℕ). is_allowed n st.planned st.committed q ≡ true) same_keeping (st.at.allowed q there);
     loads = λ p less. st.at.loads p (subst (λ (n : ℕ). p < n) (sym same_keeping) less);
-    faultless = λ e there. sym (faulty_same e (below_is e st.planned (st.at.allowed (name.Out e) there))) ∙ st.at.faultless e there;
+    faultless = λ e there. sym (faulty_same e (ltb-true e st.planned (st.at.allowed (name.Out e) there))) ∙ st.at.faultless e there;
   }
 
   proper_other : (e : ℕ) → e < st.planned → job.is_next other e ≡ true

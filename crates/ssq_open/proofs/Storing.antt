@@ -1,5 +1,6 @@
 -- The stores are loaded one after the other.
 use Rattle.std.proofs.Common.{◌≡◌, ◌∙◌, ◌<◌, ◌≤◌, ◌+◌, ◌++◌, [], ◌∷◌, ℕ, List, length, get_or, refl, sym, ap, subst, arith}
+use Rattle.std.proofs.lemmas.List.{length_push}
 use Rattle.ssq_outside.specs.Files.{Files}
 use Rattle.ssq_store.specs.declared.store.Store.{Store}
 use Rattle.ssq_store.specs.declared.fault.StoreFault.{StoreFault}
@@ -10,13 +11,13 @@ use Rattle.ssq_open.specs.declared.fault.OpenFault.TheVariants.{OtherQuery, Othe
 use Rattle.ssq_open.specs.Fault.{fault_of_store}
 use Rattle.ssq_open.specs.Stores.{IsStoreOf, AreStores, AreLoaded, AreNew, CanBeMade, StoresRefuse}
 use Rattle.ssq_open.specs.Opening.{IsOutside}
-use Rattle.ssq_open.proofs.Planning.{longer, pushed}
+use Rattle.ssq_open.proofs.Planning.{pushed}
 
 -- what holds of so many elements, each at its place, and of one more
 pushed_to : {X : Type 0} (Good : ℕ → X → Type 0) (xs : List X) (x : X) (n : ℕ) → length xs ≡ n → ((e : ℕ) (default : X) → e < n → Good e (get_or xs e default)) → Good n x
     → (e : ℕ) (default : X) → e < n + 1 → Good e (get_or (xs ++ x ∷ []) e default)
 pushed_to Good xs x n count each here e default less =
-    pushed Good xs x (λ f d low. each f d (omega (arith, low, count))) (subst (λ m. Good m x) (sym count) here) e default (omega (arith, less, count, longer xs x))
+    pushed Good xs x (λ f d low. each f d (omega (arith, low, count))) (subst (λ m. Good m x) (sym count) here) e default (omega (arith, less, count, length_push xs x))
 
 pub no_stores : (committed : ℕ) → AreStores 0 committed []
 no_stores committed = record { many = refl; each = λ p default less. absurd (omega (arith, less)) }
@@ -26,7 +27,7 @@ none_loaded files committed = record { numbers = no_stores committed; made = λ 
 
 pub stores_next : (p committed : ℕ) (stores : List Store) (store : Store) → AreStores p committed stores → IsStoreOf p committed store → AreStores (p + 1) committed (stores ++ store ∷ [])
 stores_next p committed stores store are is = record {
-  many = longer stores store ∙ ap (λ n. n + 1) are.many;
+  many = length_push stores store ∙ ap (λ n. n + 1) are.many;
   each = pushed_to (λ q (own : Store). IsStoreOf q committed own) stores store p are.many are.each is;
 }
 

@@ -1,7 +1,7 @@
 -- Which files of a partition's state a desk has: each delta that was committed is there, or a settled snapshot stands for it.
-use Rattle.std.proofs.Common.{◌≡◌, ◌⊎◌, ◌<◌, ◌≤◌, ◌+◌, ◌==◌, ◌&&◌, ◌||◌, [], ◌∷◌, ℕ, Bool, true, false, true≢false, List, Option, Some, None, if◌then◌else◌, refl, sym, ap, ◌∙◌, subst, inl, inr, arith}
+use Rattle.std.proofs.Common.{◌≡◌, ◌⊎◌, ◌<◌, ◌≤◌, ◌+◌, ◌==◌, ◌&&◌, [], ◌∷◌, ℕ, Bool, true, false, true≢false, List, Option, Some, None, if◌then◌else◌, refl, sym, ap, ◌∙◌, subst, inl, inr, arith}
 use Rattle.std.specs.Prelude.{is_some}
-use Rattle.std.proofs.lemmas.Bool.{cases_lt, and_parts, eqb-true}
+use Rattle.std.proofs.lemmas.Bool.{cases_lt, and_parts, eqb-true, or_left}
 use Rattle.std.proofs.lemmas.Bool.Decides.{nat_tests}
 use Rattle.ssq_outside.specs.declared.name.Name.{Name}
 use Rattle.ssq_outside.specs.declared.name.Name.TheVariants as name
@@ -229,10 +229,6 @@ trichotomy s v = elim (cases_lt s v) [
   | inr most ↦ elim (cases_lt v s) [ inl above ↦ inr (inr above) | inr same ↦ inr (inl (omega (arith, most, same))) ]
 ]
 
-or_first : (a b : Bool) → a ≡ true → (a || b) ≡ true
-or_first true b is = refl
-or_first false b is = false_true is
-
 module _ (keeping : ℕ) (c : Core) (k : Shelf) (d : Desk) (known : IsKnown keeping d) (held : ShowsShelf c k d) (committed : d.committed ≡ c.front.committed) (p v : ℕ) (keeps : p < keeping) (due : IsDue (asked_in k) k.settled p (last_of c) v) where
   -- what is due is acknowledged
   pub due_committed : v < c.front.committed
@@ -248,7 +244,7 @@ module _ (keeping : ℕ) (c : Core) (k : Shelf) (d : Desk) (known : IsKnown keep
         elim (trichotomy cover.0 v) [
           | inl below ↦ inr (cover.0, cover.1, below, there)
           | inr other ↦ elim other [
-            | inl same ↦ false_true (sym due.absent ∙ among_both (there_in k) k.claimed (name.Snapshot p v) ∙ or_first (is_among (there_in k) (name.Snapshot p v)) (is_among k.claimed (name.Snapshot p v)) (subst (λ (s : ℕ). is_among (there_in k) (name.Snapshot p s) ≡ true) same there))
+            | inl same ↦ false_true (sym due.absent ∙ among_both (there_in k) k.claimed (name.Snapshot p v) ∙ or_left (is_among (there_in k) (name.Snapshot p v)) (is_among k.claimed (name.Snapshot p v)) (subst (λ (s : ℕ). is_among (there_in k) (name.Snapshot p s) ≡ true) same there))
             | inr above ↦ false_true (sym (due.stays cover.0 above (sym (held.sure (name.Snapshot p cover.0) refl) ∙ cover.2)) ∙ sym (held.acknowledged (cover.0 + 20)) ∙ cover.3)
           ]
         ])

@@ -1,5 +1,5 @@
 -- The files that a round leaves are those of its plans.
-use Rattle.std.proofs.Common.{◌≡◌, ◌&&◌, Option, None, ◌⊎◌, ◌<◌, ◌≤◌, ◌+◌, ◌||◌, [], ◌∷◌, ℕ, Bool, true, false, true≢false, List, Some, if◌then◌else◌, nat_lt, refl, sym, ap, ◌∙◌, subst, inl, inr, arith}
+use Rattle.std.proofs.Common.{◌≡◌, ◌&&◌, Option, None, ◌⊎◌, ◌<◌, ◌≤◌, ◌+◌, ◌||◌, [], ◌∷◌, ℕ, Bool, true, false, true≢false, List, Some, if◌then◌else◌, nat_lt, refl, sym, ap, ◌∙◌, subst, inl, inr, arith, le-ltb}
 use Rattle.std.specs.Prelude.{IsSome, is_some}
 use Rattle.std.proofs.lemmas.Bool.{cases_lt, ltb-true, ltb-false}
 use Rattle.ssq_outside.specs.declared.name.Name.{Name}
@@ -25,7 +25,6 @@ use Rattle.ssq_board.specs.Core.{Scope, Core, HasCause, May, after, fails_apart,
 use Rattle.ssq_board.specs.Shown.{Start, IsSound}
 use Rattle.ssq_board.specs.Follows.{Terms, State, Step, Leads, Shows, Goes, Tries, ShowsShelf, IsTried, BringsVersion, publishes_by, makes_by, change_of, shown}
 use Rattle.ssq_board.proofs.Following.{list_follows}
-use Rattle.ssq_board.proofs.Lists.{nat_lt-not}
 use Rattle.ssq_board.proofs.Opening.{shows_first}
 use Rattle.ssq_board.proofs.Sounds.{first_sound, step_sound}
 use Rattle.ssq_promise.specs.Run.{Begins, AreTrueTo, AreTriedTo, AreFilesOf, CallFailed, as_planned, one_tried}
@@ -350,7 +349,7 @@ module _ (job : Job) (r : Scope) (next : Cuts → ℕ → Bool) (terms : Terms j
     IsDueSo n = n.core.front.planned ≤ n.core.front.committed → n.core.front.due ≡ next n.cuts n.core.front.planned
 
     closed_due : (s : State) (d : Desk) → d.cuts ≡ s.cuts → Shows job r next terms s.core d → IsDueSo s
-    closed_due s d cuts shows all = shows.due (nat_lt-not s.core.front.committed s.core.front.planned all) ∙ ap (λ (k : Cuts). next k s.core.front.planned) cuts
+    closed_due s d cuts shows all = shows.due (le-ltb s.core.front.committed s.core.front.planned all) ∙ ap (λ (k : Cuts). next k s.core.front.planned) cuts
 
     -- and so it is of what entries lead to
     run_true : (es : List Entry) (s n : State) (d : Desk) → IsSound r s.core → d.cuts ≡ s.cuts → Shows job r next terms s.core d → ShowsShelf s.core s.shelf d → Sound job (shown s.disk s.core d) → IsTrueState job r s → Leads tells job r next s es n

@@ -1,9 +1,8 @@
 -- How a run over generated input ends, by how its run does.
-use Rattle.std.proofs.Common.{◌≡◌, ◌<◌, ◌≤◌, ◌+◌, ◌∙◌, ◌⊎◌, ℕ, zero, suc, true, false, nat_lt, List, [], ◌∷◌, length, map, Option, Some, None, Result, Ok, Err, inl, inr, refl, sym, ap, ap₂, subst, arith}
+use Rattle.std.proofs.Common.{◌≡◌, ◌<◌, ◌≤◌, ◌+◌, ◌∙◌, ◌⊎◌, ℕ, zero, suc, true, false, List, [], ◌∷◌, length, map, Option, Some, None, Result, Ok, Err, inl, inr, refl, sym, ap, ap₂, subst, arith, lt-ltb, ltb-true}
 use Rattle.std.specs.Prelude.{IsSome, slice_get, unwrap_or}
 use Rattle.std.specs.List.{All, sum_by}
 use Rattle.std.proofs.lemmas.Bool.{cases_lt}
-use Rattle.std.proofs.lemmas.Bool.Decides.{nat_tests}
 use Rattle.std.proofs.lemmas.List.{length-map}
 use Rattle.std.proofs.lemmas.List.Elements.{All-head, All-tail}
 use Rattle.ssq_outside.specs.declared.name.Name.TheVariants as name
@@ -154,12 +153,6 @@ told_clean s cuts first plans e (one ∷ rest) are all f least most = elim (case
 
 -- ---- what stands at the end
 
-lt_true : (e n : ℕ) → e < n → nat_lt e n ≡ true
-lt_true e n less = grind (arith, nat_tests, less)
-
-lt_of : (e n : ℕ) → nat_lt e n ≡ true → e < n
-lt_of e n is = grind (arith, nat_tests, is)
-
 there_of : {A : Type 0} (o : Option A) (x : A) → IsSome o → (o ≡ None) ⊎ (o ≡ Some x) → o ≡ Some x
 there_of o x some (inl none) = absurd cc
 there_of o x some (inr is) = is
@@ -178,8 +171,8 @@ record HasSinks (s : Setting) (cuts : Cuts) (n : ℕ) (files : Files) : Type 0 w
 
 sinks_of : (s : Setting) (cuts : Cuts) (n : ℕ) (files : Files) → StandsAt (course_of s cuts) n n files → HasSinks s cuts n files
 sinks_of s cuts n files stands = record {
-  there = λ e less. there_of (files (name.Out e)) (rows_at s cuts e) (stands.needed (name.Out e) (lt_true e n less)) (stands.are_true (name.Out e));
-  none_past = λ e past. none_of (files (name.Out e)) (λ some. (let low = lt_of e n (stands.allowed (name.Out e) some) in absurd (omega (arith, low, past))));
+  there = λ e less. there_of (files (name.Out e)) (rows_at s cuts e) (stands.needed (name.Out e) (lt-ltb e n less)) (stands.are_true (name.Out e));
+  none_past = λ e past. none_of (files (name.Out e)) (λ some. (let low = ltb-true e n (stands.allowed (name.Out e) some) in absurd (omega (arith, low, past))));
 }
 
 some_of : {A : Type 0} (o : Option A) (x : A) → o ≡ Some x → IsSome o

@@ -1,10 +1,11 @@
 -- A query that groups its rows in Update shows its keys.
-use Rattle.std.proofs.Common.{◌≡◌, ◌∙◌, refl, sym, subst, inl, inr, ℕ, zero, suc, ◌+◌, ◌<◌, ◌≤◌, nat_lt, Bool, true, false, not, ◌&&◌, List, [], ◌∷◌, ◌++◌, map, length, Option, Some, None, IfSome, arith, Result, Ok, Err}
+use Rattle.std.proofs.Common.{◌≡◌, ◌∙◌, refl, sym, subst, inl, inr, ℕ, zero, suc, ◌+◌, ◌<◌, ◌≤◌, nat_lt, Bool, true, false, List, [], ◌∷◌, ◌++◌, map, length, Option, Some, None, IfSome, arith, Result, Ok, Err}
 use Rattle.std.specs.Prelude.{if◌then◌else◌, position, cond}
 use Rattle.std.specs.List.{All, AllByRecursion, flat_map, list_any, position_or_len}
-use Rattle.std.proofs.lemmas.Bool.{cases_lt, lt-ltb, ltb-true}
+use Rattle.std.proofs.lemmas.Bool.{cases_lt, lt-ltb, ltb-true, and_parts}
 use Rattle.std.proofs.lemmas.List.Elements.{All-head, All-tail}
 use Rattle.std.specs.Str.{bytes_eq}
+use borrow.Author.Tests.{not-false}
 use Rattle.ssq_ast.specs.declared.expr.ColumnRef.{ColumnRef}
 use Rattle.ssq_ast.specs.declared.expr.Expr.TheVariants as expr
 use Rattle.ssq_ast.specs.declared.expr.Ident.{Ident}
@@ -67,11 +68,6 @@ shown_one : (at : ℕ) (outputs : List Output) → list_any (modes.is_key at) ou
 shown_one at [] = refl
 shown_one at (output ∷ outputs) = rw (same_key at output, shown_one at outputs) refl
 
-both_true : (a b : Bool) → (a && b) ≡ true → (a ≡ true) × (b ≡ true)
-both_true true true is = (refl, refl)
-both_true true false is = absurd cc
-both_true false b is = absurd cc
-
 there : (at count : ℕ) → at < suc count → count ≤ at → count ≡ at
 there at count less more = omega (arith, less, more)
 
@@ -79,7 +75,7 @@ each_shown : (outputs : List Output) (count : ℕ) → are_shown outputs count �
 unfolding are_shown
 each_shown outputs zero shown at less = absurd (omega (arith, less))
 each_shown outputs (suc count) shown at less =
-    let both = both_true (list_any (modes.is_key count) outputs) (are_shown outputs count) shown in
+    let both = and_parts (list_any (modes.is_key count) outputs) (are_shown outputs count) shown in
     elim (cases_lt at count) [
       | inl nearer ↦ each_shown outputs count both.1 at nearer
       | inr more ↦ subst (λ (k : ℕ). list_any (table.is_key k) outputs ≡ true) (there at count less more) (sym (shown_one count outputs) ∙ both.0)
@@ -198,11 +194,6 @@ grouping_is query grouping is = by (is_group query) is
     by true same = group_same (grouping_of query) grouping same
     by false same = absurd (no_group grouping (context_of query) query.select.join query.select.deduplicate same)
 
--- no rule of modes forbids groups in Update: each key is shown, and there is no HAVING
-not_false : (b : Bool) → not b ≡ false → b ≡ true
-not_false true is = refl
-not_false false is = absurd cc
-
 none_there : {A : Type 0} (o : Option A) → modes.is_there o ≡ false → o ≡ None
 none_there None is = refl
 none_there (Some a) is = absurd cc
@@ -211,7 +202,7 @@ hides_none : (bound : Bound) (grouping : Grouping) → AppliesNone bound → bou
 unfolding applies
 hides_none bound grouping none is update =
     let same = none fault.KeyNotShown in
-    not_false (are_shown bound.outputs (length grouping.keys)) (rw (is, update) at same)
+    not-false (are_shown bound.outputs (length grouping.keys)) (rw (is, update) at same)
 
 has_none : (bound : Bound) (grouping : Grouping) → AppliesNone bound → bound.shape ≡ shape.Group grouping → bound.mode ≡ mode.Update → grouping.having ≡ None
 unfolding applies

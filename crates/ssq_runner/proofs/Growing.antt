@@ -2,7 +2,7 @@
 use Rattle.std.proofs.Common.{◌≡◌, ◌<◌, ◌≤◌, ◌+◌, ◌∙◌, nat_lt, ℕ, zero, suc, Bool, true, false, List, [], ◌∷◌, length, get_or, sum, All, ◌*◌, Option, Some, None, true≢false, refl, sym, ap, subst, arith, inl, inr, if◌then◌else◌}
 use Rattle.std.specs.Prelude.{◌⊎◌, ◌||◌, ◌&&◌, ◌==◌, nat_le, IsTrue}
 use Rattle.std.specs.List.{list_all, zip}
-use Rattle.std.proofs.lemmas.Bool.{ltb-true, leb-true, and_parts, cases_lt}
+use Rattle.std.proofs.lemmas.Bool.{ltb-true, leb-true, and_parts, cases_lt, or_parts}
 use Rattle.std.proofs.lemmas.List.Sums.{sum_by-cons}
 use Rattle.std.proofs.lemmas.List.Elements.{All-head, All-tail}
 use Rattle.ssq_plans.specs.declared.part.PartEnd.{PartEnd}
@@ -147,10 +147,6 @@ end_still cap end found is = by (nat_lt end found) is
     by true never = absurd (true≢false never)
     by false never = refl
 
-none_of : (a b : Bool) → (a || b) ≡ false → (a ≡ false) × (b ≡ false)
-none_of true b is = absurd (true≢false is)
-none_of false b is = (refl, is)
-
 pub next_still : (cap : Option ℕ) (ends : EndsOf) (found : List ℕ) → is_behind ends found ≡ false → next_ends cap ends found ≡ ends
 next_still cap [] found is = refl
 next_still cap (end ∷ ends) [] is = ap (λ (rest : EndsOf). end ∷ rest) (next_still cap ends [] (none_behind ends))
@@ -159,7 +155,7 @@ next_still cap (end ∷ ends) [] is = ap (λ (rest : EndsOf). end ∷ rest) (nex
     none_behind [] = refl
     none_behind (end ∷ ends) = refl
 next_still cap (end ∷ ends) (n ∷ found) is =
-    let both = none_of (nat_lt end.end n) (is_behind ends found) is in
+    let both = or_parts (nat_lt end.end n) (is_behind ends found) is in
     let here = end_still cap end.end n both.0 in
     let rest = next_still cap ends found both.1 in
     λ i. record { stream = end.stream; part = end.part; end = here i } ∷ rest i

@@ -1,5 +1,6 @@
 -- The names that an opening lists are those of the files of the state.
 use Rattle.std.proofs.Common.{◌≡◌, ◌<◌, ◌||◌, ℕ, zero, suc, Bool, true, false, true≢false, List, [], ◌∷◌, length, filter, Contains, IsSome, is_some, if◌then◌else◌, sym, refl, ap, ◌∙◌, subst, arith}
+use Rattle.std.proofs.lemmas.Bool.{or_right}
 use Rattle.ssq_outside.specs.declared.name.Name.{Name}
 use Rattle.ssq_outside.specs.declared.name.Name.TheVariants as name
 use Rattle.ssq_outside.specs.Files.{Files, AreNames, same_name}
@@ -20,14 +21,10 @@ among_has (n ∷ ns) q is = by (same_name n q) refl is (λ there. among_has ns q
     by true same is rest = (0, omega arith, same_name-true n q same)
     by false other is rest = (let at = rest is in (suc at.0, (let less = at.1 in omega (arith, less)), at.2))
 
-or_true : (a b : Bool) → b ≡ true → (a || b) ≡ true
-or_true true b is = refl
-or_true false b is = is
-
 has_among : (names : List Name) (q : Name) → Contains names q → is_among names q ≡ true
 has_among [] q (k, less, is) = absurd (omega (arith, less))
 has_among (n ∷ ns) q (zero, less, is) = ap (λ (b : Bool). b || is_among ns q) (subst (λ (x : Name). same_name x q ≡ true) (sym is) (same_name-same q))
-has_among (n ∷ ns) q (suc k, less, is) = or_true (same_name n q) (is_among ns q) (has_among ns q (k, omega (arith, less), is))
+has_among (n ∷ ns) q (suc k, less, is) = or_right (same_name n q) (is_among ns q) (has_among ns q (k, omega (arith, less), is))
 
 all_listed : (files : Files) (names : List Name) → AreNames files names → AreListed files names
 all_listed files names are q state = by (is_among names q) refl (is_some (files q)) refl

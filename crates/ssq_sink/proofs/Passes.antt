@@ -1,5 +1,5 @@
 -- The sink files are gone through, one after the other.
-use Rattle.std.proofs.Common.{◌≡◌, ℕ, zero, suc, ◌+◌, ◌<◌, ◌≤◌, max, ◌^◌, List, [], ◌∷◌, ◌++◌, length, take, get_or, Some, None, is_some, true≢false, refl, sym, ap, ◌∙◌, subst, append_assoc, append-nil, arith, inl, inr, ◌⊎◌, IsUtf8, Result, Ok, Err, OnOk}
+use Rattle.std.proofs.Common.{◌≡◌, ℕ, zero, suc, ◌+◌, ◌<◌, ◌≤◌, max, ◌^◌, List, [], ◌∷◌, ◌++◌, length, take, Some, None, is_some, true≢false, refl, sym, ap, ◌∙◌, subst, append_assoc, append-nil, arith, inl, inr, ◌⊎◌, IsUtf8, Result, Ok, Err, OnOk}
 use Rattle.std.specs.Prelude.{slice_get, Contains, unwrap_or}
 use Rattle.std.proofs.lemmas.List.Elements.{Contains-append_left, Contains-push, Contains-push_cases}
 use Rattle.std.proofs.lemmas.Bool.{cases_lt}
@@ -170,11 +170,3 @@ take-all [] zero is = refl
 take-all [] (suc n) is = refl
 take-all (x ∷ xs) zero is = absurd (omega (arith, is))
 take-all (x ∷ xs) (suc n) is = ap (λ l. x ∷ l) (take-all xs n (omega (arith, is)))
-
-pub take-more : {A : Type 0} (xs : List A) (at : ℕ) (d : A) → at < length xs → take (at + 1) xs ≡ take at xs ++ get_or xs at d ∷ []
-take-more xs at d low = let next : at + 1 ≡ suc at = omega arith in ap (λ k. take k xs) next ∙ go d xs at low
-  where
-    go : {A : Type 0} (d : A) (xs : List A) (at : ℕ) → at < length xs → take (suc at) xs ≡ take at xs ++ get_or xs at d ∷ []
-    go d [] at low = absurd (omega arith)
-    go d (y ∷ ys) zero low = refl
-    go d (y ∷ ys) (suc at) low = ap (λ l. y ∷ l) (go d ys at (omega arith))

@@ -1,9 +1,8 @@
 -- The sink files of a checkpoint that stands are the rows of their epochs.
-use Rattle.std.proofs.Common.{◌≡◌, ◌∙◌, refl, sym, ap, subst, inl, inr, ◌+◌, ◌∷◌, [], ◌<◌, ◌≤◌, ℕ, zero, suc, List, map, Option, Some, None, Bool, true, false, arith}
-use Rattle.std.specs.Prelude.{All, IsSome, if◌then◌else◌, length, nat_lt}
+use Rattle.std.proofs.Common.{◌≡◌, ◌∙◌, refl, sym, ap, subst, inl, inr, ◌+◌, ◌∷◌, [], ◌<◌, ◌≤◌, ℕ, zero, suc, List, map, Option, Some, None, Bool, true, false, arith, ltb-true, lt-ltb}
+use Rattle.std.specs.Prelude.{All, IsSome, if◌then◌else◌, length}
 use Rattle.std.specs.List.{AllByRecursion}
 use Rattle.std.proofs.lemmas.Bool.{cases_lt}
-use Rattle.std.proofs.lemmas.Bool.Decides.{nat_tests}
 use Rattle.std.proofs.lemmas.List.Elements.{All-from_recursion, recursion_from_All}
 use Rattle.ssq_outside.specs.declared.name.Name.TheVariants as name
 use Rattle.ssq_outside.specs.Files.{Files}
@@ -76,30 +75,24 @@ absent_not : {A : Type 0} (o : Option A) → o ≡ None → IsSome o → ⊥
 absent_not None is there = absurd cc
 absent_not (Some x) is there = absurd cc
 
-lower : (a b : ℕ) → nat_lt a b ≡ true → a < b
-lower a b is = grind (arith, nat_tests)
-
-test : (a b : ℕ) → a < b → nat_lt a b ≡ true
-test a b is = grind (arith, nat_tests)
-
 module _ (s : Setting) (cuts : Cuts) (planned committed : ℕ) (files : Files) (m : ℕ) (at : StandsAt (course_of s cuts) planned committed files) (counted : AreCounted files m) where
   sinks_least : committed ≤ m
   sinks_least = by committed refl
     where
       by : (k : ℕ) → k ≡ committed → committed ≤ m
       by zero is = omega (arith, is)
-      by (suc e) is = let there = counted.all e (at.needed (name.Out e) (test e committed (omega (arith, is)))) in omega (arith, is, there)
+      by (suc e) is = let there = counted.all e (at.needed (name.Out e) (lt-ltb e committed (omega (arith, is)))) in omega (arith, is, there)
 
   sinks_most : m ≤ planned
   sinks_most = by m refl
     where
       by : (k : ℕ) → k ≡ m → m ≤ planned
       by zero is = omega (arith, is)
-      by (suc e) is = let low = lower e planned (at.allowed (name.Out e) (counted.last e (omega (arith, is)))) in omega (arith, is, low)
+      by (suc e) is = let low = ltb-true e planned (at.allowed (name.Out e) (counted.last e (omega (arith, is)))) in omega (arith, is, low)
 
   sink_there : (e : ℕ) → e < m → IsThere files (name.Out e)
   sink_there e below = elim (cases_lt e committed) [
-    | inl low ↦ at.needed (name.Out e) (test e committed low)
+    | inl low ↦ at.needed (name.Out e) (lt-ltb e committed low)
     | inr high ↦ counted.last e (let ahead = at.reached.one_ahead in let most = sinks_most in omega (arith, below, high, ahead, most))
   ]
 

@@ -1,6 +1,6 @@
 -- Values that a query can keep, and that have their types, can stand in a sink file.
-use Rattle.std.proofs.Common.{◌≡◌, ◌≤ℤ◌, ℤ, pos, negsuc, ◌^◌, ◌-◌, ℕ, List, [], ◌∷◌, Option, Result, Ok, Err, true, int_le, arith}
-use Rattle.std.specs.Prelude.{All, FitsSigned, IfOk, IfSome, length, nat_le, ◌≤◌}
+use Rattle.std.proofs.Common.{◌≡◌, ◌≤ℤ◌, ℤ, pos, negsuc, ◌^◌, ◌-◌, List, [], ◌∷◌, Option, Result, Ok, Err, true, int_le, arith, leb-true}
+use Rattle.std.specs.Prelude.{All, FitsSigned, IfOk, IfSome, length, ◌≤◌}
 use Rattle.std.specs.Int.{w64}
 use Rattle.std.proofs.lemmas.Int.{ints}
 use Rattle.std.proofs.lemmas.Bool.{and_parts}
@@ -51,11 +51,8 @@ counted n is =
     let parts : (int_le (negsuc (2 ^ 63 - 1)) n ≡ true) × (int_le n (pos (2 ^ 63 - 1)) ≡ true) = and_parts _ _ is in
     within n (at_most (negsuc (2 ^ 63 - 1)) n parts.0) (at_most n (pos (2 ^ 63 - 1)) parts.1)
 
-short : (n most : ℕ) → nat_le n most ≡ true → n ≤ most
-short n most is = grind (arith, is)
-
 fits : HoldsOfResults IsFit
-fits = record { null = tt; int = counted; text = λ t is. (short (length t) longest (and_parts _ _ is).0, IsUtf8-from_is_utf8 t (and_parts _ _ is).1); time = stamped; truth = λ t. tt }
+fits = record { null = tt; int = counted; text = λ t is. (leb-true (length t) longest (and_parts _ _ is).0, IsUtf8-from_is_utf8 t (and_parts _ _ is).1); time = stamped; truth = λ t. tt }
 
 pub groups_stored : (aggregate_kinds kinds : List ColType) (aggregates : List (Option Value)) (key : List Value) (outputs : List Output) → AreFoundIn aggregate_kinds aggregates → All (λ aggregate. IfSome aggregate IsFit) aggregates
     → AreHeldBy kinds key → All IsFit key → All (HasItsKind aggregate_kinds kinds) outputs → IfOk (group_items outputs key aggregates) (AreStoredIn (kinds_of outputs))

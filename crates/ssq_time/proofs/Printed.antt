@@ -8,8 +8,8 @@ use Rattle.ssq_time.specs.Time.{digit_of, two_digits, second_text, two_at, decim
 use Rattle.std.proofs.lemmas.Slice.Eq.{HasBytesAt, text_from_reads}
 use Rattle.jiff_core.proofs.CalendarLemmas.{days_from_civil-day_count, day_count-lt_year, days_in_month_bounds}
 use Rattle.jiff_core.proofs.MarchLemmas.{day_count-early}
-use Rattle.std.proofs.lemmas.Bool.{cases_order}
-use Rattle.ssq_time.proofs.Steps.{if_some, some_same, both_true, same_true, above_zero, if_none, if_cases}
+use Rattle.std.proofs.lemmas.Bool.{cases_order, and_parts}
+use Rattle.ssq_time.proofs.Steps.{if_some, some_same, same_true, above_zero, if_none, if_cases}
 use Rattle.ssq_time.proofs.Days.{first_day, day_behind, january-le}
 use Rattle.ssq_time.proofs.Parts.{stamp_text-parts}
 use Rattle.ssq_time.proofs.Readback.{plain_text, full_text, parts_text-zero, parts_text-more, stamp_of-stamp_text}
@@ -76,7 +76,7 @@ day_at_head_is first last text day small e =
     option_and_then_some _ (two_at text 5) day e2 (λ m em e3.
     option_and_then_some _ (two_at text 8) day e3 (λ d ed e4.
     let h = if_some _ (day_number first last (100 * a + b) m d) day e4 in
-    let signs = both_true _ _ h.0 in
+    let signs = and_parts _ _ h.0 in
     let b_at = two_is text 2 b eb in
     let century : a ≡ (100 * a + b) / 100 = omega (arith, b_at.small) in
     let year : b ≡ (100 * a + b) % 100 = omega (arith, b_at.small) in
@@ -125,8 +125,8 @@ second_behind_day_is text second e =
     option_and_then_some _ (two_at text 14) second e1 (λ m em e2.
     option_and_then_some _ (two_at text 17) second e2 (λ s es e3.
     let t = if_some _ (second_number h m s) second e3 in
-    let signs = both_true _ _ t.0 in
-    let front = both_true _ _ signs.0 in
+    let signs = and_parts _ _ t.0 in
+    let front = and_parts _ _ signs.0 in
     let is = second_is h m s second t.1 in
     let hour : h ≡ second / 3600 = omega arith in
     let minute : m ≡ second / 60 % 60 = omega arith in

@@ -1,5 +1,5 @@
 -- What a value says of the tests and the steps that made it.
-use Rattle.std.proofs.Common.{◌≡◌, ℕ, ◌<◌, refl, arith, true, false, ◌&&◌, ◌==◌, Option, Some, None, if◌then◌else◌, Bool}
+use Rattle.std.proofs.Common.{◌≡◌, ℕ, ◌<◌, refl, arith, true, false, ◌==◌, Option, Some, None, if◌then◌else◌, Bool}
 use Rattle.std.proofs.lemmas.Bool.Decides.{nat_tests}
 
 -- a test that let a value through was true
@@ -12,10 +12,6 @@ none_some x e = cc
 
 pub some_same : {A : Type 0} (a b : A) → Some a ≡ Some b → a ≡ b
 some_same a b e = cc
-
-pub both_true : (a b : Bool) → (a && b) ≡ true → (a ≡ true) × (b ≡ true)
-both_true true b e = (refl, e)
-both_true false b e = absurd (cc)
 
 pub same_true : (a b : ℕ) → (a == b) ≡ true → a ≡ b
 same_true a b e = grind (arith, nat_tests)

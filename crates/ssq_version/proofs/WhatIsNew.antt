@@ -8,6 +8,7 @@ use Rattle.std.specs.BTreeMap.{is_at}
 use Rattle.std.specs.Cmp.Lexicographic.{pointwise}
 use Rattle.std.proofs.lemmas.Slice.Eq.{slice_eq-Decides}
 use Rattle.std.proofs.lemmas.Bool.Decides.{Decides-eqb}
+use borrow.Author.Tests.{not-true, not-false}
 use Rattle.ssq_version.specs.State.{State, Change, by_bytes, Ascends, value_at, value_after, IsAfter, IsBetween, is_same, is_news, news, AreNews}
 use Rattle.ssq_version.proofs.Collected.{same_entries}
 use Rattle.ssq_version.proofs.Values.{by_case, one_key, first_at, others_at, none_behind, ascends_behind, IsRest, whole_rest, less_rest}
@@ -44,18 +45,10 @@ is_same-is (Some one) (Some other) same = ap Some ((bytes_decide one other).0 sa
 is_same-is None (Some other) same = absurd (true≢false (sym same))
 is_same-is (Some one) None same = absurd (true≢false (sym same))
 
-not_true : (b : Bool) → not b ≡ true → b ≡ false
-not_true false is = refl
-not_true true is = absurd (true≢false (sym is))
-
-not_false : (b : Bool) → not b ≡ false → b ≡ true
-not_false true is = refl
-not_false false is = absurd (true≢false is)
-
 -- what is new is not what the key has
 pub news_differ : (state : State) (key : List ℕ) (value : Option (List ℕ)) → is_news state (key, value) ≡ true → value_at state key ≢ value
 news_differ state key value is same =
-    true≢false (sym (is_same-itself value) ∙ ap (λ (o : Option (List ℕ)). is_same o value) (sym same) ∙ not_true (is_same (value_at state key) value) is)
+    true≢false (sym (is_same-itself value) ∙ ap (λ (o : Option (List ℕ)). is_same o value) (sym same) ∙ not-true (is_same (value_at state key) value) is)
 
 pub differ_news : (state : State) (key : List ℕ) (value : Option (List ℕ)) → value_at state key ≢ value → is_news state (key, value) ≡ true
 differ_news state key value differ =
@@ -158,7 +151,7 @@ news_are_between old new change ascend after = record {
     untold : (key : List ℕ) (o : Option (Option (List ℕ))) → value_at change key ≡ o → new_of old key o ≡ None → value_at new key ≡ value_at old key
     untold key None is e = said key None is
     untold key (Some x) is e =
-        said key (Some x) is ∙ sym (is_same-is (value_at old key) x (not_false (is_same (value_at old key) x) (none_is (is_news old (key, x)) x e)))
+        said key (Some x) is ∙ sym (is_same-is (value_at old key) x (not-false (is_same (value_at old key) x) (none_is (is_news old (key, x)) x e)))
 
 -- ---- there is but one
 
