@@ -6,7 +6,7 @@ use Rattle.std.specs.Cmp.Lexicographic.{nat_list_cmp_total, slice_cmp}
 use Rattle.std.specs.FinMap.{find, from_entries, get-entries, get-from_entries}
 use Rattle.std.specs.List.{AllByRecursion}
 use Rattle.std.specs.Map.{lookup}
-use Rattle.std.specs.Ordering.{is_eq, is_gt, nat_cmp}
+use Rattle.std.specs.Ordering.{is_gt, nat_cmp}
 use Rattle.std.proofs.lemmas.List.Elements.{recursion_from_All}
 use Rattle.ssq_value.specs.declared.value.Value.{Value}
 use Rattle.ssq_value.specs.declared.value.Value.TheVariants as value
@@ -30,6 +30,7 @@ use Rattle.ssq_meaning.specs.Keyed.{key_length_by, key_time_by}
 use Rattle.ssq_meaning.specs.Meaning.{Values}
 use Rattle.ssq_meaning.specs.Totals.{column_of, greater, lesser, total_of, totals_bytes, totals_from}
 use Rattle.ssq_meaning.proofs.Keys.{All-by, All-distinct, same_is}
+use Rattle.ssq_meaning.proofs.Coding.{first_true as first_of, found_is}
 use Rattle.ssq_agg.specs.Fits.{AllFit, Fits}
 use Rattle.ssq_agg.specs.Groups.{AreSteady, started}
 use Rattle.ssq_step.specs.Indexing.{Indexes, IsIndexBy, Timed}
@@ -110,10 +111,6 @@ kept_is : (b : Bool) (totals own : List Total) → held_if b totals ≡ Some own
 kept_is true totals own is = refl
 kept_is false totals own is = absurd cc
 
-first_of : (a b : Bool) → (a && b) ≡ true → a ≡ true
-first_of true b is = refl
-first_of false b is = absurd cc
-
 pub group_readable : (query : Bound) (grouping : Grouping) (old new : List FedRow) (before : Option ℤ) → AllByRecursion (IsKept grouping) old → AreSteady grouping.aggregates (held query grouping old before) new
     → (key : Values) (totals : List Total) → held query grouping old before key ≡ Some totals → IsReadableGroup grouping key totals
 group_readable query grouping old new before rows steady key totals is =
@@ -151,10 +148,6 @@ given_groups found query grouping state closing old new before now given =
     }
 
 -- ---- each key that is kept is a row's
-
-found_is : {X : Type 0} (q : List ℕ) (es : List (List ℕ × X)) → lookup (is_at (by_bytes q)) es ≡ find by_bytes q es
-found_is q [] = refl
-found_is q (e ∷ es) = ap (λ o. if is_eq (by_bytes q e.0) then Some e.1 else o) (found_is q es)
 
 keys_of_rows : (many : ℕ) (rows : List FedRow) → AllByRecursion (λ (row : FedRow). IsKeySpelled many row.key) rows → AllByRecursion (IsKeySpelled many) (map (λ (row : FedRow). row.key) rows)
 keys_of_rows many [] all = tt

@@ -20,18 +20,11 @@ use Rattle.ssq_meaning.specs.GroupLaws.{held}
 use Rattle.ssq_meaning.specs.Meaning.{Values}
 use Rattle.ssq_meaning.specs.Totals.{summand, sum_of, total_of, column_of, totals_from, with_row}
 use Rattle.ssq_meaning.proofs.Handing.{all_append}
+use Rattle.ssq_meaning.proofs.FewRows.{passing_few}
 use Rattle.ssq_step.proofs.Lists.{cell_has}
 use Rattle.ssq_agg.specs.Fits.{Fits, AllFit}
 use Rattle.ssq_agg.specs.Groups.{AreSteady, HasBigints, Held, IsBigint, started}
 use Rattle.ssq_agg.proofs.Stepping.{held_is}
-
-length_filter : {A : Type 0} (p : A → Bool) (xs : List A) → length (filter p xs) ≤ length xs
-length_filter p [] = omega arith
-length_filter p (x ∷ xs) = by (p x) (length_filter p xs)
-  where
-    by : (b : Bool) → length (filter p xs) ≤ length xs → length (if b then x ∷ filter p xs else filter p xs) ≤ suc (length xs)
-    by true less = omega (arith, less)
-    by false less = omega (arith, less)
 
 abs_add : (a b : ℤ) → unsigned_abs (a +ℤ b) ≤ unsigned_abs a + unsigned_abs b
 abs_add a b = grind (arith, ints)
@@ -52,9 +45,9 @@ sum_bound start (v ∷ values) all =
     omega (arith, rest, one, own)
 
 total_fits : (own : Function) (values : List Value) → length values < 2 ^ 64 → AllByRecursion IsBigint values → Fits (total_of own values)
-total_fits function.Count values few all = let less = length_filter (λ v. not (is_null v)) values in omega (arith, few, less)
+total_fits function.Count values few all = let less = passing_few (λ v. not (is_null v)) values in omega (arith, few, less)
 total_fits function.Sum values few all =
-    let less = length_filter (λ v. not (is_null v)) values in
+    let less = passing_few (λ v. not (is_null v)) values in
     let bound = sum_bound (pos 0) values all in
     (omega (arith, few, less), fits_signed_from_abs w128 (sum_of values) (omega (arith, bound, few)))
 total_fits function.Min values few all = tt
@@ -74,7 +67,7 @@ totals_fit at (aggregate ∷ aggregates) rows few all =
 members_few : (rows : List FedRow) (key : Values) → length (members rows key) ≤ length rows
 members_few rows key =
     let same = length-map (filter (λ row. is_same key row.key) rows) (λ (row : FedRow). row.values) in
-    let less = length_filter (λ (row : FedRow). is_same key row.key) rows in
+    let less = passing_few (λ (row : FedRow). is_same key row.key) rows in
     omega (arith, same, less)
 
 members_are : (rows : List FedRow) (key : Values) → AllByRecursion HasBigints rows → AllByRecursion (λ row. AllByRecursion IsBigint row) (members rows key)

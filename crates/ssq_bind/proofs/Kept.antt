@@ -35,6 +35,7 @@ use Rattle.ssq_check.specs.declared.scope.Within.TheVariants as within
 use Rattle.ssq_check.specs.Joined.{spot_in, spot_by}
 use Rattle.ssq_check.specs.Rules.{operands_of, operator_kind, unary_kind, aggregate_kind, between_kind, divides, is_sum, is_shift, may_stand, type_of, of_one, together, if_divides, kind}
 use Rattle.ssq_check.specs.Scope.{bare_spot, named_spot, grouped, column_kind_by, column_kind}
+use Rattle.ssq_check.proofs.Behind.{all_behind}
 use Rattle.ssq_bind.specs.declared.context.Context.{Context}
 use Rattle.ssq_bind.specs.Typed.{column_kinds, source_kinds, row_kinds}
 use Rattle.ssq_bind.specs.Value.{width, behind, row_index, column_value, unary_value, null_value, binary_value, between_value, shift_of, shift_by, shifted_or, shifted_value, function_of, numbered, given, count, literal, value_of, aggregates_of, row_value}
@@ -51,11 +52,8 @@ in_left (z ∷ xs) ys (suc k) x is = in_left xs ys k x is
 one_more : (n m k : ℕ) → n ≡ suc m → n + k ≡ suc (m + k)
 one_more n m k is = omega (arith, is)
 
-none_more : (k : ℕ) → 0 + k ≡ k
-none_more k = omega arith
-
 pub in_right : {A : Type 0} (xs ys : List A) (k : ℕ) → slice_get (xs ++ ys) (length xs + k) ≡ slice_get ys k
-in_right [] ys k = ap (slice_get ys) (none_more k)
+in_right [] ys k = ap (slice_get ys) (all_behind k)
 in_right (x ∷ xs) ys k = ap (slice_get (x ∷ (xs ++ ys))) (one_more (length (x ∷ xs)) (length xs) k refl) ∙ in_right xs ys k
 
 length_kinds : (columns : List Column) → length (column_kinds columns) ≡ length columns

@@ -45,6 +45,7 @@ use Rattle.ssq_check.specs.Sound as sound
 use Rattle.ssq_check.specs.Sound.{IsSoundStream, IsCondition, IsSoundGroup, IsOrdered, IsHaving, IsSoundJoin, HasEvent, IsTimeSpot, IsSound}
 use Rattle.ssq_check.specs.Whole.{QueryFaults}
 use Rattle.ssq_check.proofs.SoundLemmas.{sound_where_none}
+use Rattle.ssq_check.proofs.Behind.{all_behind}
 use Rattle.ssq_bind.specs.declared.context.Context.{Context}
 use Rattle.ssq_bind.specs.Bound.{context_of, select_aggregates, shown_of, kept_by, shape_of, filter_value, bound_of}
 use Rattle.ssq_bind.specs.Shapes.{item_aggregates, kind_or_bigint, spot_kind, column_type, output_of, outputs_of, is_output, sort_key, group_items, key_of, having_value, having_aggregates}
@@ -150,9 +151,6 @@ grouping_within query w = record {
   having = option_map (having_value (context_of query) w (length (flat_map (item_aggregates (context_of query) w) query.select.items))) query.select.having;
 }
 
-none_more : (n : ℕ) → 0 + n ≡ n
-none_more n = omega arith
-
 -- the keys of a scope, by GROUP BY
 keys_stand : (scope : Scope) (by : Option GroupBy) → AllByRecursion (KeyStands scope) (group_keys scope by)
 keys_stand scope None = tt
@@ -173,7 +171,7 @@ group_typed query is items having =
     let must : List Aggregate = having_aggregates context within.Group query.select.having in
     let all : List Aggregate = selected ++ must in
     let stand : KeysStand context.scope = at_each (KeyStands context.scope) context.scope.keys (keys_stand (row_scope query) query.select.group) in
-    let whole : StandIn all 0 all = λ i x there. ap (slice_get all) (none_more i) ∙ there in
+    let whole : StandIn all 0 all = λ i x there. ap (slice_get all) (all_behind i) ∙ there in
     let have = groups_have context all stand in
     record {
       key_kinds = key_kinds context.scope;
@@ -181,7 +179,7 @@ group_typed query is items having =
       keyed = keys_typed (row_scope query) query.select.group is.group;
       counted = counted_all rows all (all_both (IsCounted rows) selected must (items_counted context query.select.items items) (having_counted context query.select.having having));
       having = having_typed context within.Group (map (own_kind rows) all) (key_kinds context.scope) (StandIn all) have (length selected) query.select.having
-          (subst (λ (n : ℕ). StandIn all n must) (none_more (length selected)) (back_in all 0 selected must whole)) having;
+          (subst (λ (n : ℕ). StandIn all n must) (all_behind (length selected)) (back_in all 0 selected must whole)) having;
       shown = All-from_recursion (HasItsKind (map (own_kind rows) all) (key_kinds context.scope)) _
           (outputs_typed context within.Group (map (own_kind rows) all) (key_kinds context.scope) (StandIn all) have 0 query.select.items (front_in all 0 selected must whole) items);
     }

@@ -17,7 +17,7 @@ one_few true = omega arith
 one_few false = omega arith
 
 -- an end that goes on
-within_less : (cap : Option ℕ) (e s : ℕ) → HasCap cap → e < s → e + 1 ≤ within cap e s
+pub within_less : (cap : Option ℕ) (e s : ℕ) → HasCap cap → e < s → e + 1 ≤ within cap e s
 within_less None e s cap less = omega arith
 within_less (Some most) e s cap less = by (nat_lt (e + most) s) refl
   where

@@ -11,6 +11,7 @@ use Rattle.ssq_outside.specs.declared.gate.Kind.TheVariants as kind
 use Rattle.ssq_outside.specs.Files.{same_name}
 use Rattle.ssq_outside.proofs.Names.{same_name-true, same_name-same}
 use Rattle.ssq_upkeep.specs.Upkeep.{is_among, is_up_to}
+use Rattle.ssq_upkeep.proofs.Among.{or_false, among_both}
 use Rattle.ssq_core.specs.Course.{Cuts}
 use Rattle.ssq_core.specs.Sound.{is_state}
 use Rattle.ssq_core.specs.Machine.{Desk, placed, with_file, with_plan, with_commit, with_sync, with_store, without_file, same_kind, same_task, upkeep}
@@ -148,13 +149,6 @@ shelves_sync n committed stop now s d most there runs k = record {
 
 -- ---- a file of the state is published
 
-or_none : (a b : Bool) → b ≡ false → (a || b) ≡ a
-or_none true b e = refl
-or_none false b e = e
-
-pub among_both : (a b : List Name) (q : Name) → is_among (a ++ b) q ≡ (is_among a q || is_among b q)
-among_both a b q = list_any-append (λ n. same_name n q) a b
-
 -- a name that was added is among the others
 added_there : (s : Shelf) (q : Name) → same_name q q ≡ true → is_among (there_in (with_name q s)) q ≡ true
 added_there s q itself = by (is_among (there_in s) q) refl
@@ -172,7 +166,7 @@ added_other s q r other = by (is_among (there_in s) q) refl
     by true h = ap (λ (b : Bool). is_among (s.settled ++ (if b then s.news else s.news ++ q ∷ [])) r) h
     by false h = ap (λ (b : Bool). is_among (s.settled ++ (if b then s.news else s.news ++ q ∷ [])) r) h
         ∙ among_both s.settled (s.news ++ q ∷ []) r
-        ∙ ap (λ (b : Bool). is_among s.settled r || b) (among_both s.news (q ∷ []) r ∙ or_none (is_among s.news r) (same_name q r || false) (or_end (same_name q r) ∙ other))
+        ∙ ap (λ (b : Bool). is_among s.settled r || b) (among_both s.news (q ∷ []) r ∙ or_false (is_among s.news r) (same_name q r || false) (or_end (same_name q r) ∙ other))
         ∙ sym (among_both s.settled s.news r)
 
 same_turned : (q r : Name) → same_name r q ≡ false → same_name q r ≡ false
@@ -213,7 +207,7 @@ pub settled_last : (c : Core) → c.front.settled ≡ true → last_of c ≡ las
 settled_last c is = ap last_before (ap (λ (b : Bool). if b then c.front.committed else c.front.committed - 1) (or_right (is_open c) c.front.settled is))
 
 pub closed_last : (c : Core) → is_open c ≡ false → c.front.settled ≡ false → last_of c ≡ last_before (c.front.committed - 1)
-closed_last c closed open_ = ap last_before (ap (λ (b : Bool). if b then c.front.committed else c.front.committed - 1) (or_none (is_open c) c.front.settled open_ ∙ closed))
+closed_last c closed open_ = ap last_before (ap (λ (b : Bool). if b then c.front.committed else c.front.committed - 1) (or_false (is_open c) c.front.settled open_ ∙ closed))
 
 pub acknowledged_few : (c : Core) → acknowledged_in c ≤ c.front.committed
 acknowledged_few c = by (is_open c || c.front.settled)

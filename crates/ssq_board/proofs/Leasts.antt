@@ -15,7 +15,7 @@ none_some e = absurd (cc)
 some_none : {A : Type 0} {f : Cause} → Some f ≡ None → A
 some_none e = absurd (cc)
 
-some_is : (a b : Cause) → Some a ≡ Some b → a ≡ b
+pub some_is : (a b : Cause) → Some a ≡ Some b → a ≡ b
 some_is a b e = ap or_a e
   where
     or_a : Option Cause → Cause

@@ -53,7 +53,7 @@ need_moved c t q p o here = by t.kind here
     by kind.Out e = omega (arith, total_set need_of c.outs t.number q p e)
     by kind.Upkeep e = absurd (some-ne-none q (sym e))
 
-stop_less : (a b : Option Cause) → stop_need (or_stop a b) ≤ stop_need a
+pub stop_less : (a b : Option Cause) → stop_need (or_stop a b) ≤ stop_need a
 stop_less None b = stop_few b
 stop_less (Some f) b = omega arith
 

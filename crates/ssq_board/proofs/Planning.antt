@@ -9,12 +9,12 @@ use Rattle.ssq_outside.specs.declared.gate.TaskId.{TaskId}
 use Rattle.ssq_outside.specs.declared.gate.Kind.{Kind}
 use Rattle.ssq_outside.specs.declared.gate.Kind.TheVariants as kind
 use Rattle.ssq_outside.specs.Files.{same_name}
-use Rattle.ssq_outside.proofs.Names.{same_name-same}
 use Rattle.ssq_core.specs.declared.event.Event.TheVariants as event
 use Rattle.ssq_core.specs.Course.{Course, Cuts, Ends, Job, AreSameUpTo}
 use Rattle.ssq_core.specs.Machine.{Desk, with_file, with_plan, with_commit, with_sync, out_task, reduce, publishes, syncs, IsRunning, GoesOn, MayOn}
 use Rattle.ssq_core.specs.Machine as machine
 use Rattle.ssq_core.specs.Sound.{AreProper}
+use Rattle.ssq_core.proofs.Epochs.{there_new}
 use Rattle.ssq_board.specs.declared.front.Place.{Place}
 use Rattle.ssq_board.specs.declared.front.Place.TheVariants as place
 use Rattle.ssq_board.specs.declared.front.Entry.TheVariants as entry
@@ -35,9 +35,6 @@ there_still q p d h = by (same_name q p) refl
     by : (b : Bool) → same_name q p ≡ b → (if same_name q p then true else d.there q) ≡ true
     by true is = ap (λ (b : Bool). if b then true else d.there q) is
     by false is = ap (λ (b : Bool). if b then true else d.there q) is ∙ h
-
-pub there_now : (p : Name) (d : Desk) → (with_file p d).there p ≡ true
-there_now p d = ap (λ (b : Bool). if b then true else d.there p) (same_name-same p)
 
 -- a task that is done was claimed
 done_went : (course : Course) (t : TaskId) (there : machine.Place) → IsDone course t there → there ≡ machine.waits → ⊥
@@ -87,7 +84,7 @@ module _ (job : Job) (r : Scope) (due : Cuts → ℕ → Bool) (terms : Terms jo
     commits = λ k less. there_still (name.Commit k) (name.Out e) d (s.commits k less);
   }) (record {
     written = λ o w. (
-      subst (λ (x : ℕ). (out_desk e).there (name.Out x) ≡ true) m.1 (there_now (name.Out e) d),
+      subst (λ (x : ℕ). (out_desk e).there (name.Out x) ≡ true) m.1 (there_new (name.Out e) d),
       s.tasks o (out_task c.front.committed) (place.Back None) refl m.4,
     );
     tasks = λ o t p epoch here. s.tasks o t p epoch (same_at t.kind c (after r c (entry.OutFile e)).front t.number ∙ here);
@@ -153,7 +150,7 @@ module _ (job : Job) (r : Scope) (due : Cuts → ℕ → Bool) (terms : Terms jo
     plan_settled = λ o f. absurd (true≢false (sym o ∙ closed));
     commits = λ k less. elim (less_or k c.front.committed less) [
       | inl below ↦ there_still (name.Commit k) (name.Commit e) d (s.commits k below)
-      | inr same ↦ subst (λ (x : ℕ). (commit_desk e).there (name.Commit x) ≡ true) (m.1 ∙ sym same) (there_now (name.Commit e) d)
+      | inr same ↦ subst (λ (x : ℕ). (commit_desk e).there (name.Commit x) ≡ true) (m.1 ∙ sym same) (there_new (name.Commit e) d)
     ];
     written = λ o w. absurd (true≢false (sym o ∙ closed));
     tasks = λ o. absurd (true≢false (sym o ∙ closed));
@@ -236,7 +233,7 @@ module _ (job : Job) (r : Scope) (due : Cuts → ℕ → Bool) (terms : Terms jo
     settled = λ h. absurd (true≢false (sym h));
     plan_there = λ k less. elim (less_or k c.front.planned less) [
       | inl below ↦ there_still (name.Plan k) (name.Plan e) d (s.plan_there k below)
-      | inr same ↦ subst (λ (x : ℕ). (plan_desk e).there (name.Plan x) ≡ true) (m.1 ∙ sym same) (there_now (name.Plan e) d)
+      | inr same ↦ subst (λ (x : ℕ). (plan_desk e).there (name.Plan x) ≡ true) (m.1 ∙ sym same) (there_new (name.Plan e) d)
     ];
     plan_settled = λ o f. absurd (true≢false (sym f));
     commits = λ k less. there_still (name.Commit k) (name.Plan e) d (s.commits k less);

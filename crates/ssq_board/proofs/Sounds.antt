@@ -220,7 +220,7 @@ due_none c t f e = by c.front.stop refl e
 pub some_no : (f : Cause) → Some f ≡ None → ⊥
 some_no f e = cc
 
-never : (o : Option Cause) (f : Cause) → or_stop o (Some f) ≡ None → ⊥
+pub never : (o : Option Cause) (f : Cause) → or_stop o (Some f) ≡ None → ⊥
 never None f e = some_no f e
 never (Some g) f e = some_no g e
 

@@ -14,6 +14,7 @@ use Rattle.ssq_outside.specs.Files.{same_name}
 use Rattle.ssq_outside.specs.History.{History, had_now}
 use Rattle.ssq_outside.proofs.Names.{same_name-true}
 use Rattle.ssq_upkeep.specs.Upkeep.{IsDueAmong, MayGo, is_among, is_sure, Goes}
+use Rattle.ssq_upkeep.proofs.Among.{among_both}
 use Rattle.ssq_core.specs.declared.event.Event.TheVariants as event
 use Rattle.ssq_core.specs.Course.{Cuts, Job}
 use Rattle.ssq_core.specs.Sound.{is_state}
@@ -28,17 +29,14 @@ use Rattle.ssq_board.specs.Core.{Scope, Core, at, with_front, stopped_front, or_
 use Rattle.ssq_board.specs.Shown.{IsSound}
 use Rattle.ssq_board.specs.Shelf.{Shelf, there_in, asked_in, without, unclaimed, untidy, with_name, snapshot_on, last_of, acknowledged_in, MayKeep, shelf_by}
 use Rattle.ssq_board.specs.Follows.{Terms, Goes as Done, Moves, makes_by, ShowsAt, is_snapshot, Shows, IsKept, Shelves, ShowsShelf, life_of, shown}
-use Rattle.ssq_board.proofs.Sounds.{some_no}
+use Rattle.ssq_board.proofs.Sounds.{some_no, never as or_some}
 use Rattle.ssq_board.proofs.Placing.{placed_at, placed_twice, same_at, files_shown, shows_else, stopped_shows}
 use Rattle.ssq_board.proofs.Planning.{runs_on, goes_on}
-use Rattle.ssq_board.proofs.Leading.{elapses_same, owes_none, not_over, went, tried, report_stops, Follows}
-use Rattle.ssq_board.proofs.Keeping.{shelves_stopped, no_upkeep, acknowledged_few, added_names, among_both, up_to_is}
+use Rattle.ssq_board.proofs.Leading.{elapses_same, owes_none, not_over, went, tried, report_stops, Follows, out_failed}
+use Rattle.ssq_board.proofs.Keeping.{shelves_stopped, no_upkeep, acknowledged_few, added_names, up_to_is}
 
-out_waits : machine.out ≡ machine.waits → ⊥
+pub out_waits : machine.out ≡ machine.waits → ⊥
 out_waits e = cc
-
-out_failed : machine.out ≡ machine.failed → ⊥
-out_failed e = cc
 
 back_failed : (b : Bool) (bytes : Option (List ℕ)) → machine.back b bytes ≡ machine.failed → ⊥
 back_failed b bytes e = cc
@@ -169,7 +167,7 @@ module _ (p v : ℕ) (names : List Name) where
 
 -- ---- what is being made no more
 
-and_false : (a : Bool) → (a && false) ≡ false
+pub and_false : (a : Bool) → (a && false) ≡ false
 and_false true = refl
 and_false false = refl
 
@@ -200,10 +198,6 @@ without_is q r (n ∷ ns) = by (same_name n q) refl (same_name n r) refl (withou
         ∙ sym (ap (λ (x : Bool). (x || is_among ns r) && not (same_name r q)) ha ∙ ap (λ (x : Bool). not x) stays)
     by false hb false ha ih =
         ap (λ (x : Bool). is_among (if not x then n ∷ without q ns else without q ns) r) hb ∙ ap (λ (x : Bool). x || is_among (without q ns) r) ha ∙ ih ∙ ap (λ (x : Bool). (x || is_among ns r) && not (same_name r q)) (sym ha)
-
-or_some : (a : Option Cause) (f : Cause) → or_stop a (Some f) ≡ None → ⊥
-or_some None f e = some_no f e
-or_some (Some g) f e = some_no g e
 
 stop_same : (a : Option Cause) (f : Cause) → or_stop a (stops_by a f) ≡ or_stop a (Some f)
 stop_same None f = refl
@@ -288,7 +282,7 @@ shared false true false = refl
 shared false false true = refl
 shared false false false = refl
 
-still_sure : (b here sure : Bool) → (here ≡ true → sure ≡ true) → (if b then false else here) ≡ true → (if b then false else sure) ≡ true
+pub still_sure : (b here sure : Bool) → (here ≡ true → sure ≡ true) → (if b then false else here) ≡ true → (if b then false else sure) ≡ true
 still_sure true here sure is h = absurd (true≢false (sym h))
 still_sure false here sure is h = is h
 

@@ -11,6 +11,7 @@ use Rattle.ssq_core.specs.declared.event.Event.TheVariants as event
 use Rattle.ssq_core.specs.Course.{Cuts, Job}
 use Rattle.ssq_core.specs.Machine.{Desk, placed, with_file, with_store, Change, nothing, misses, publishes, Allows, reduce, out_task}
 use Rattle.ssq_core.specs.Machine as machine
+use Rattle.ssq_core.proofs.Epochs.{there_new}
 use Rattle.ssq_board.specs.declared.front.Cause.{Cause}
 use Rattle.ssq_board.specs.declared.front.Cause.TheVariants as cause
 use Rattle.ssq_board.specs.declared.front.Front.{Front}
@@ -22,8 +23,9 @@ use Rattle.ssq_board.specs.Shelf.{Shelf, last_of, version_on, shelf_by}
 use Rattle.ssq_board.proofs.Keeping.{shelves_placed, shelves_stored, shelves_stopped, shelves_delta, open_last, or_stop_none}
 use Rattle.ssq_board.proofs.Sounds.{due_none}
 use Rattle.ssq_board.proofs.Placing.{placed_at, placed_twice, same_at, shows_else, HasBrought, placed_shows}
-use Rattle.ssq_board.proofs.Planning.{runs_on, there_still, there_now}
+use Rattle.ssq_board.proofs.Planning.{runs_on, there_still}
 use Rattle.ssq_board.proofs.Leading.{elapses_same, owes_none, went, tried, out_not_done, out_back, back_failed, report_stops, due_why, Follows}
+use Rattle.ssq_board.proofs.Upkeeping.{out_waits}
 
 -- a desk with other files, and with other stores
 abbrev grown : (Name → Bool) → (ℕ → List ℕ) → Desk → Desk
@@ -31,9 +33,6 @@ grown names stores d = record { cuts = d.cuts; planned = d.planned; committed = 
 
 abbrev settled_as : Front → Bool → Front
 settled_as f settled = record { planned = f.planned; committed = f.committed; fresh = f.fresh; settled = settled; written = f.written; has_lines = f.has_lines; due = f.due; stop = f.stop }
-
-out_waits : machine.out ≡ machine.waits → ⊥
-out_waits e = cc
 
 out_reduce : (e n : ℕ) {p : ℕ} → out_task e ≡ reduce n p → ⊥
 out_reduce e n same = kinds (ap (λ (t : TaskId). t.kind) same)
@@ -207,7 +206,7 @@ module _ (told : Type 0) (job : Job) (r : Scope) (next : Cuts → ℕ → Bool) 
             report_stops told job (shown old c d) new c published (event.Seal t ∷ event.Report t ∷ []) (due c t None) (due_why c t None) (publishes_leads old new run moves),
             refl,
             version_shows None run (back_place false) (done false refl) (λ e. back_failed e) (with_file (name.Delta p e) d).there stored.stores (λ q is. there_still q (name.Delta p e) d is)
-                (λ h. absurd (true≢false (sym h))) (λ none. there_now (name.Delta p e) d),
+                (λ h. absurd (true≢false (sym h))) (λ none. there_new (name.Delta p e) d),
             version_shelf None run published (shelves_delta (last_of c) c.front.committed p e c.front.stop (or_stop c.front.stop (due c t None)) k (placed t (back_place false) stored) (or_stop_none c.front.stop (due c t None)) (elsewhere (back_place false))),
           )
       version_by (Some f) is old new moves =

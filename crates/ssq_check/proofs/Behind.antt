@@ -9,7 +9,7 @@ use Rattle.ssq_check.proofs.KeyLemmas.{one_less}
 none_behind : (n : ℕ) → n ≡ n + 0
 none_behind n = omega arith
 
-all_behind : (n : ℕ) → 0 + n ≡ n
+pub all_behind : (n : ℕ) → 0 + n ≡ n
 all_behind n = omega arith
 
 one_behind : (n k : ℕ) → (n + 1) + k ≡ n + (1 + k)

@@ -120,12 +120,12 @@ module _ (s : Setting) (one other : Cuts) (n : ℕ) (same : AreSameUpTo one othe
 -- ---- what has a fault
 
 -- a test on an option that is false
-none_of : {A : Type 0} → (x : Option A) → is_some x ≡ false → x ≡ None
+pub none_of : {A : Type 0} → (x : Option A) → is_some x ≡ false → x ≡ None
 none_of None is = refl
 none_of (Some x) is = cc
 
 -- between an offset and one not after it there is no line
-no_lines : (from to : ℕ) (lines : List Line) → to ≤ from → lines_between from to lines ≡ []
+pub no_lines : (from to : ℕ) (lines : List Line) → to ≤ from → lines_between from to lines ≡ []
 no_lines from to lines le = ap (λ (m : ℕ). take m (drop from lines)) (let none : to - from ≡ 0 = omega (arith, le) in none)
 
 no_fault_in : (query : Bound) (part : Part) (from to : ℕ) → to ≤ from → fault_in query part from to ≡ None

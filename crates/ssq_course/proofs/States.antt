@@ -35,6 +35,7 @@ use Rattle.ssq_meaning.specs.Parts.{Part}
 use Rattle.ssq_version.specs.State.{Ascends, Change, IsShort, IsState, State, between, by_bytes, said_of, value_at, with_gone}
 use Rattle.ssq_version.specs.Text.{snapshot_text}
 use Rattle.ssq_version.proofs.Leading.{between_kept, news_few}
+use Rattle.ssq_version.proofs.Spelled.{length_said}
 use Rattle.ssq_core.specs.Course.{Cuts}
 use Rattle.ssq_course.specs.Setting.{Setting, cuts_of, parts_in, state_at}
 use Rattle.ssq_course.specs.States.{AreOfStates, AreWithinLimits, CanHold, CanHoldBy, CoverFewLines, HasFewCells, HasFewColumns, StatesCanBeHeld}
@@ -62,13 +63,9 @@ gone_few (entry ∷ old) said = by (is_some (value_at said entry.0)) (gone_few o
     by true there gone = omega (arith, there)
     by false there gone = omega (arith, gone, inserted_few entry.0 None said)
 
-said_few : (state : State) → length (said_of state) ≡ length state
-said_few [] = refl
-said_few (entry ∷ state) = ap (λ n. suc n) (said_few state)
-
 between_few : (old new : State) → length (between old new) ≤ length old + length new
 unfolding between
-between_few old new = omega (arith, news_few old (with_gone old (said_of new)), gone_few old (said_of new), said_few new)
+between_few old new = omega (arith, news_few old (with_gone old (said_of new)), gone_few old (said_of new), length_said new)
 
 -- ---- states
 

@@ -17,6 +17,7 @@ use Rattle.ssq_meaning.specs.Cut.{Cuts as Offsets}
 use Rattle.ssq_meaning.specs.Times.{Delay, delay_of, delays, delays_from, is_above, later, watermark_by}
 use Rattle.ssq_meaning.specs.Epochs.{seen, watermark_before}
 use Rattle.ssq_meaning.proofs.Causal.{says_same}
+use Rattle.ssq_meaning.proofs.Water.{later_none}
 use Rattle.ssq_water.specs.Water.{seen_at}
 use Rattle.ssq_plans.specs.declared.plan.Plan.{Plan}
 use Rattle.ssq_plans.specs.declared.part.PartEnd.{PartEnd}
@@ -29,7 +30,7 @@ use Rattle.ssq_open.specs.declared.wanted.Opened.{Opened}
 use Rattle.ssq_open.specs.Epochs.{cut_of, no_plan, follows, keeps_up}
 use Rattle.ssq_open.specs.Watermarks.{watermarked, watermarked_from, watermarked_by, is_line_of}
 use Rattle.ssq_task.specs.Committing.{told}
-use Rattle.ssq_task.proofs.Commits.{told_more, none_before, later_none, streams_of, places_of}
+use Rattle.ssq_task.proofs.Commits.{told_more, none_before, streams_of, places_of}
 use Rattle.ssq_terms.specs.Laws.{due_at, TasksHaveTerms}
 use Rattle.ssq_terms.specs.Opening.{DeskOpensAsFound}
 use Rattle.ssq_terms.proofs.Wanted.{parts_found}

@@ -38,7 +38,7 @@ if_not : (b : Bool) (x y : Ready) → (x ≡ ready.Plan → ⊥) → (y ≡ read
 if_not true x y not_x not_y e = not_x e
 if_not false x y not_x not_y e = not_y e
 
-tasks_not : (c : Core) → ready_tasks c ≡ ready.Plan → ⊥
+pub tasks_not : (c : Core) → ready_tasks c ≡ ready.Plan → ⊥
 unfolding is_plan
 tasks_not c =
     let no_sync = not_plan ready.Sync refl in

@@ -34,6 +34,7 @@ use Rattle.ssq_board.specs.Core.{Core, after, due, fault_at, is_here, is_open, i
 use Rattle.ssq_board.specs.Follows.{BringsNone, BringsVersion, IsOwn}
 use Rattle.ssq_board.proofs.Leasts.{cause_counts}
 use Rattle.ssq_board.proofs.Lists.{all_fine, at_length, set_length, there_at}
+use Rattle.ssq_board.proofs.Keeping.{or_stop_none}
 use Rattle.ssq_ledger.specs.Shown.{HasNone, HasVersion, IsInOrder, IsLegal, IsTrue, IsVersioned, Shown, answer, cuts_after, cuts_of, did}
 use Rattle.ssq_terms.specs.Laws.{FaultsAreOfTasks}
 use Rattle.ssq_terms.specs.Partitions.{BringsPartition, IsVersionOf, KeysAreLeast, PartitionsAreBrought}
@@ -57,7 +58,7 @@ use Rattle.ssq_desk.proofs.Holding.{holds_reduced, put_both, put_dealt, put_redu
 use Rattle.ssq_desk.proofs.Overflows.{key_stops, lines_good}
 use Rattle.ssq_desk.proofs.Phases.{maps_done}
 use Rattle.ssq_desk.proofs.Wholes.{rises_some}
-use Rattle.ssq_desk.proofs.Reducing.{Outcome, back_held, back_rests, back_share, given_empty, given_keeps, none_due, own_brought, own_of, own_cause, own_key, own_reduced, partition_task, reduce_stops, rekeyed, runs_by}
+use Rattle.ssq_desk.proofs.Reducing.{Outcome, back_held, back_rests, back_share, given_empty, given_keeps, none_due, own_brought, own_of, own_cause, own_key, own_reduced, partition_task, reduce_stops, rekeyed}
 
 -- a Stop that was there, or one that is due now
 by_stop : {P : Type 0} (old more : Option Cause) (g : Cause) → or_stop old (if is_stopped old then None else more) ≡ Some g → (old ≡ Some g → P) → (old ≡ None → more ≡ Some g → P) → P
@@ -160,7 +161,7 @@ module _ {D L S F : Type 0} {stores logs : Type 0} {history : D → History} {li
         → HoldsIn stores logs history lines available answers faults written sealed shown cuts (with_reduce c stop p (place.Back f)) load.part_logs.items shares (set load.held.items p own) load.out load.seen load.pending
     holds_back share held =
         holds_reduced (stores × logs) owned lines available (LogWent logs lines available answers faults) shown.opening.logs.items written sealed s cuts shown.scope.available c stop f p x own load.part_logs.items load.shares.items load.held.items load.out load.seen load.pending
-        (runs_by c.front.stop (due c (reduce_id e p) f)) whole.holds away (λ run _. share run) held (λ _. key) causes
+        (or_stop_none c.front.stop (due c (reduce_id e p) f)) whole.holds away (λ run _. share run) held (λ _. key) causes
         (λ stopped. by_stop c.front.stop (due_stop places) cause.KeyOverflow stopped (λ before. absurd (no_key_before before)) (λ run is. ((cause_counts places cause.KeyOverflow is).first refl).0))
         (λ g stopped. by_stop c.front.stop (due_stop places) g stopped
         (λ before. rekeyed (stores × logs) owned s cuts e (key_in load.shares.items) (key_in shares) g (λ is. no_key_before (before ∙ ap Some is)) (whole.holds.stop g before))

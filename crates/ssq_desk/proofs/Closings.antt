@@ -22,6 +22,7 @@ use Rattle.ssq_water.specs.Water.{seen_at}
 use Rattle.ssq_feed.specs.Causes.{LogWent}
 use Rattle.ssq_step.specs.Indexing.{Timed}
 use Rattle.ssq_store.specs.declared.store.Store.{Store}
+use Rattle.ssq_sink.proofs.Passes.{get_some as part_there}
 use Rattle.ssq_task.specs.Committing.{lines_of}
 use Rattle.ssq_core.specs.Course.{Ends, Cuts, Job}
 use Rattle.ssq_course.specs.Setting.{Setting, parts_in, cut_of, first_ends, course_of}
@@ -60,12 +61,12 @@ use Rattle.ssq_desk.specs.First.{AreIndexes}
 use Rattle.ssq_desk.specs.Closing.{IsToldOf, AreTold, IsNext, closings_in, lines_between, stores_in}
 use Rattle.ssq_desk.proofs.Betweens.{ends_are, ends_within}
 use Rattle.ssq_desk.proofs.Feeding.{all_at}
-use Rattle.ssq_desk.proofs.Handing.{part_there}
 use Rattle.ssq_desk.proofs.Keeping.{between_held}
 use Rattle.ssq_desk.proofs.Leaving.{IsLeft, held_left, keeping_most}
 use Rattle.ssq_desk.proofs.Planned.{at_get, fine_not_gone}
 use Rattle.ssq_desk.proofs.Ends.{AreWithin, planned_first}
 use Rattle.ssq_desk.proofs.Telling.{between_most, sum_most, told_less}
+use Rattle.ssq_desk.proofs.Beginnings.{map_at}
 
 module _ {D L S F : Type 0} (stores logs : Type 0) (history : D → History) (lines : L → List Line) (available : L → ℕ) (answers : L → List ℕ) (faults : L → ℕ) (written : S → List ℕ) (sealed : F → List ℕ) (shown : Shown D (Round L)) (load : Load L S F)
     (whole : IsWhole stores logs history lines available answers faults written sealed shown load) (legal : IsLegal (Owns stores logs history lines shown) history (opening_in lines) shown) (order : IsInOrder shown.scope shown.core)
@@ -144,11 +145,6 @@ all_zip P [] [] count each = tt
 all_zip P [] (y ∷ ys) count each = absurd (omega (arith, count))
 all_zip P (x ∷ xs) [] count each = absurd (omega (arith, count))
 all_zip P (x ∷ xs) (y ∷ ys) count each = (each 0 x y refl refl, all_zip P xs ys (omega (arith, count)) (λ i a b here there. each (suc i) a b here there))
-
-get_map : {A B : Type 0} (f : A → B) (l : List A) (i : ℕ) (a : A) → get_elem? l i ≡ some a → get_elem? (map f l) i ≡ some (f a)
-get_map f [] i a here = absurd (some-ne-none a (sym here))
-get_map f (x ∷ l) zero a here = ap (λ y. some (f y)) (some-injective x a here)
-get_map f (x ∷ l) (suc i) a here = get_map f l i a here
 
 log_or : {L : Type 0} → L → Option L → L
 log_or d None = d
@@ -257,7 +253,7 @@ module _ {D L S F : Type 0} (stores logs : Type 0) (history : D → History) (li
       let less = at_length back i own here in
       let part_log = there_at load.part_logs.items i (omega (arith, less, count)) in
       let log = there_back none i part_log.0 part_log.1 in
-      let both : some (Some own) ≡ some part_log.0.log = sym (get_map (λ (log : L). Some log) back i own here) ∙ ap (λ l. get_elem? l i) same ∙ get_map (λ (x : PartLog L). x.log) load.part_logs.items i part_log.0 part_log.1 in
+      let both : some (Some own) ≡ some part_log.0.log = sym (map_at (λ (log : L). Some log) back i own here) ∙ ap (λ l. get_elem? l i) same ∙ map_at (λ (x : PartLog L). x.log) load.part_logs.items i part_log.0 part_log.1 in
       let own_is : log.0 ≡ own = same_log log.0 own (sym log.1 ∙ sym (some-injective (Some own) part_log.0.log both)) in
       let before_is : log.2.0 ≡ before = some-injective log.2.0 before (sym log.2.1 ∙ there) in
       subst (λ (x : L). LogWent logs lines available answers faults x own) before_is (subst (λ (x : L). LogWent logs lines available answers faults log.2.0 x) own_is log.2.2)))
@@ -269,7 +265,7 @@ module _ {D L S F : Type 0} (stores logs : Type 0) (history : D → History) (li
       let count : length back ≡ length load.part_logs.items = sym (length-map back (λ (log : L). Some log)) ∙ ap length same ∙ length-map load.part_logs.items (λ (x : PartLog L). x.log) in
       let less = at_length load.part_logs.items was.at was.part_log was.part_log_is in
       let own = there_at back was.at (omega (arith, less, count)) in
-      let both : some (Some own.0) ≡ some was.part_log.log = sym (get_map (λ (log : L). Some log) back was.at own.0 own.1) ∙ ap (λ l. get_elem? l was.at) same ∙ get_map (λ (x : PartLog L). x.log) load.part_logs.items was.at was.part_log was.part_log_is in
+      let both : some (Some own.0) ≡ some was.part_log.log = sym (map_at (λ (log : L). Some log) back was.at own.0 own.1) ∙ ap (λ l. get_elem? l was.at) same ∙ map_at (λ (x : PartLog L). x.log) load.part_logs.items was.at was.part_log was.part_log_is in
       let own_is : was.log ≡ own.0 = same_log was.log own.0 (sym was.log_is ∙ sym (some-injective (Some own.0) was.part_log.log both)) in
       let part = one_of_sum faults back was.at own.0 own.1 in
       let counted = was.counted in

@@ -22,7 +22,7 @@ use Rattle.ssq_desk.specs.Round.{IsOwned, Owns, setting_of}
 use Rattle.ssq_desk.specs.Whole.{IsWhole, opening_in}
 use Rattle.ssq_desk.proofs.Handing.{tos_within}
 
-third : (a b c : Bool) → (a && b && c) ≡ true → c ≡ true
+pub third : (a b c : Bool) → (a && b && c) ≡ true → c ≡ true
 third true true c e = e
 third true false c e = absurd (true≢false (sym e))
 third false b c e = absurd (true≢false (sym e))

@@ -20,7 +20,8 @@ use Rattle.ssq_desk.specs.declared.desk.Pending.{Pending}
 use Rattle.ssq_task.specs.declared.partition.Held.{Held}
 use Rattle.ssq_desk.specs.Contents.{IsPartLogOf, IsKeyOf, IsHeldOf, IsHeldAt, AreSeen, IsOutWork, IsEpoch, Holds, keeping_in}
 use Rattle.ssq_desk.specs.Making.{AreReady}
-use Rattle.ssq_desk.proofs.Planned.{at_get, slice_below, quiet_of, waits_not_back, rests_not_back, waits_not_rests}
+use Rattle.ssq_desk.proofs.Planned.{at_get, quiet_of, waits_not_back, rests_not_back, waits_not_rests}
+use Rattle.ssq_desk.proofs.Beginnings.{slice_below}
 
 -- What is made for the first state: for each part its log, which begins where the committed epochs end.
 pub record IsFirstMade {L : Type 0} (reads : Type 0) (lines : L → List Line) (available : L → ℕ) (went : L → L → Type 0) (opened : List L) (s : Setting) (r : Scope) (from : Ends) (part_logs : List (PartLog L)) : Type 0 where

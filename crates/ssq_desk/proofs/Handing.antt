@@ -58,6 +58,8 @@ use Rattle.ssq_desk.specs.Round.{setting_of, Owns}
 use Rattle.ssq_feed.specs.Causes.{LogWent}
 use Rattle.ssq_desk.specs.Contents.{IsPartLogOf, IsLogOf, IsMapped}
 use Rattle.ssq_meaning.specs.declared.fed_row.View.{View}
+use Rattle.ssq_meaning.proofs.Coding.{first_true as and_left}
+use Rattle.ssq_sink.proofs.Passes.{get_some as part_there}
 use Rattle.ssq_desk.specs.Tasks.{IsViewOf}
 use Rattle.ssq_desk.specs.Handed.{IsMapOf}
 use Rattle.ssq_desk.specs.Closing.{AreTold, HasFaulty}
@@ -71,15 +73,10 @@ use Rattle.ssq_desk.proofs.Betweens.{ends_are, ends_within, each_end}
 pub runs_without : (o : Option Cause) (f : Cause) → o ≡ None → o ≡ Some f → ⊥
 runs_without o f runs stopped = true≢false (sym (sym (ap is_some runs) ∙ ap is_some stopped))
 
-pub part_there : {A : Type 0} (l : List A) (i : ℕ) → i < length l → (a : A) × (slice_get l i ≡ Some a)
-part_there [] i less = absurd (omega (arith, less))
-part_there (x ∷ l) zero less = (x, refl)
-part_there (x ∷ l) (suc i) less = part_there l i (omega (arith, less))
-
 waits_not_away : place.Waits ≡ place.Away → ⊥
 waits_not_away e = cc
 
-and_right : (a b : Bool) → (a && b) ≡ true → b ≡ true
+pub and_right : (a b : Bool) → (a && b) ≡ true → b ≡ true
 and_right true b e = e
 and_right false b e = absurd (true≢false (sym e))
 
@@ -118,10 +115,6 @@ taken_at p [] [] are = (refl, λ j old new here mine. absurd (some-ne-none old (
 taken_at p [] (new ∷ news) are = absurd are
 taken_at p (old ∷ olds) [] are = absurd are
 taken_at p (old ∷ olds) (new ∷ news) are = (let rest = taken_at p olds news are.1 in (omega (arith, rest.0), one_or_later p old new olds news are.0 rest.1))
-
-and_left : (a b : Bool) → (a && b) ≡ true → a ≡ true
-and_left true b e = refl
-and_left false b e = absurd (true≢false (sym e))
 
 -- a reduce task without a fault, in an epoch that runs, is back
 back_of : {S : Type 0} (owned : Type 0) (written : S → List ℕ) (s : Setting) (cuts : Cuts) (e p : ℕ) (at : Place) (share : Share S) → is_fine at ≡ true → IsShare owned written s cuts e p at share → IsShare owned written s cuts e p (place.Back None) share

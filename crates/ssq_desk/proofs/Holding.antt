@@ -31,6 +31,7 @@ use Rattle.ssq_desk.specs.declared.desk.Pending.{Pending}
 use Rattle.ssq_desk.specs.Handing.{IsTaken}
 use Rattle.ssq_task.specs.declared.partition.Held.{Held}
 use Rattle.ssq_desk.specs.Contents.{IsPartLogOf, IsMapped, IsBrought, IsShare, IsKeyOf, IsHeldAt, IsStopOf, Holds, IsPending, IsReducedCause, key_in, keeping_in}
+use Rattle.ssq_desk.proofs.Beginnings.{map_at}
 
 -- what is put into a list is there
 pub put_is : {A : Type 0} (l : List A) (i : ℕ) (a x : A) → get_elem? (set l i a) i ≡ some x → a ≡ x
@@ -128,11 +129,6 @@ there_in (x ∷ l) [] i b e here = absurd (omega (arith, e))
 there_in (x ∷ l) (y ∷ m) zero b e here = (x, refl)
 there_in (x ∷ l) (y ∷ m) (suc i) b e here = there_in l m i b (omega (arith, e)) here
 
-get_map : {A B : Type 0} (f : A → B) (l : List A) (i : ℕ) (a : A) → get_elem? l i ≡ some a → get_elem? (map f l) i ≡ some (f a)
-get_map f [] i a here = absurd (some-ne-none a (sym here))
-get_map f (x ∷ l) zero a here = ap (λ x. some (f x)) (some-injective x a here)
-get_map f (x ∷ l) (suc i) a here = get_map f l i a here
-
 -- the key that a partition has
 abbrev pub key_of : {S : Type 0} → Share S → Option Values
 key_of share = share.key
@@ -144,7 +140,7 @@ same_count f l m same = sym (length-map l f) ∙ ap length same ∙ length-map m
 pub same_there : {A B : Type 0} (f : A → B) (l m : List A) → map f l ≡ map f m → (i : ℕ) (y : A) → get_elem? m i ≡ some y → (x : A) × (get_elem? l i ≡ some x) × (f x ≡ f y)
 same_there f l m same i y here =
     let x = there_in l m i y (same_count f l m same) here in
-    (x.0, x.1, some-injective (f x.0) (f y) (sym (get_map f l i x.0 x.1) ∙ ap (λ n. get_elem? n i) same ∙ get_map f m i y here))
+    (x.0, x.1, some-injective (f x.0) (f y) (sym (map_at f l i x.0 x.1) ∙ ap (λ n. get_elem? n i) same ∙ map_at f m i y here))
 
 -- a task that is elsewhere does not rest, nor do the others
 pub put_dealt : (reduces : List Place) (i : ℕ) (p : Place) → ((q : ℕ) → get_elem? reduces q ≡ some place.Rests → ⊥) → (p ≡ place.Rests → ⊥) → (q : ℕ) → get_elem? (set reduces i p) q ≡ some place.Rests → ⊥

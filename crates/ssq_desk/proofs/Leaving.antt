@@ -2,7 +2,7 @@
 use Rattle.std.proofs.Common.{◌≡◌, ◌≤◌, ◌+◌, ◌++◌, [], ◌∷◌, ℕ, zero, suc, true≢false, List, length, length-append, map, get_or, Option, Some, None, refl, sym, ap, ◌∙◌, subst, arith}
 use Rattle.std.specs.Prelude.{slice_get, is_some, IsSome, IsSomeAnd}
 use Rattle.std.proofs.lemmas.List.{append-nil, append_assoc, get_or-map, length-map}
-use mathlib.Core.Option.{some, some-injective, some-ne-none}
+use mathlib.Core.Option.{some, some-injective}
 use lib.ListN.{get_elem?}
 use Rattle.ssq_shape.specs.declared.bound.Shape.{Shape}
 use Rattle.ssq_shape.specs.declared.bound.Shape.TheVariants.{Plain, Group, Dedup, Join}
@@ -22,6 +22,7 @@ use Rattle.ssq_desk.specs.Contents.{IsHeldOf, IsStopOf, keeping_in}
 use Rattle.ssq_desk.specs.First.{AreIndexes}
 use Rattle.ssq_desk.specs.Closing.{stores_in, closings_in}
 use Rattle.ssq_desk.proofs.Planned.{at_get}
+use Rattle.ssq_desk.proofs.Beginnings.{map_at}
 
 -- ---- lists of options of which each has a value
 
@@ -33,11 +34,6 @@ all_some : {A : Type 0} (l : List (Option A)) → ((i : ℕ) (own : Option A) �
 all_some [] each = ([], refl)
 all_some (None ∷ l) each = absurd (true≢false (sym (each 0 None refl)))
 all_some {A} (Some a ∷ l) each = (let rest = all_some l (λ i own here. each (suc i) own here) in (a ∷ rest.0, ap (λ (l : List (Option A)). Some a ∷ l) rest.1))
-
-mapped_at : {A B : Type 0} (f : A → B) (l : List A) (i : ℕ) (a : A) → get_elem? l i ≡ some a → get_elem? (map f l) i ≡ some (f a)
-mapped_at f [] i a here = absurd (some-ne-none a (sym here))
-mapped_at f (x ∷ l) zero a here = ap (λ y. some (f y)) (some-injective x a here)
-mapped_at f (x ∷ l) (suc i) a here = mapped_at f l i a here
 
 -- what holds of each of them, and of the places after them
 each_place : {A B : Type 0} (f : A → B) (P : ℕ → Option B → Type 0) (l : List A) → ((i : ℕ) → length l ≤ i → P i None) → ((i : ℕ) (a : A) → get_elem? l i ≡ some a → P i (Some (f a))) → (i : ℕ) → P i (slice_get (map f l) i)
@@ -99,7 +95,7 @@ module _ (owned : Type 0) (s : Setting) (cuts : Cuts) (n : ℕ) where
       let all = all_some held (λ p own here. is_there (IsHeldOf owned s cuts n p) own (each p own here)) in
       subst (IsLeft owned s cuts n) (sym all.1)
       (all_left all.0 (sym (length-map all.0 (λ (h : Held). Some h)) ∙ ap length (sym all.1) ∙ count)
-      (λ p own here. each p (Some own) (ap (λ (x : List (Option Held)). get_elem? x p) all.1 ∙ mapped_at (λ (h : Held). Some h) all.0 p own here)))
+      (λ p own here. each p (Some own) (ap (λ (x : List (Option Held)). get_elem? x p) all.1 ∙ map_at (λ (h : Held). Some h) all.0 p own here)))
 
 -- the stores and indexes so far, with what is left
 pub record IsParting (held rest : List (Option Held)) (stores : List Store) (closings : List (List Timed)) (room places : ℕ) : Type 0 where

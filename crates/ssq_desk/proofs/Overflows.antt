@@ -25,8 +25,8 @@ use Rattle.ssq_terms.proofs.Showing.{are_quiet}
 use Rattle.ssq_desk.specs.declared.desk.Share.{Share}
 use Rattle.ssq_desk.specs.declared.desk.PartLog.{PartLog}
 use Rattle.ssq_desk.specs.Contents.{IsKeyOf, IsMapped, IsReducedCause, IsStopOf, key_in}
-use Rattle.ssq_desk.proofs.Planned.{slice_below}
 use Rattle.ssq_desk.proofs.Reducing.{reduced_cases}
+use Rattle.ssq_desk.proofs.Beginnings.{slice_below}
 
 -- ---- lines without a fault
 

@@ -1,6 +1,6 @@
 -- Reduce tasks begin only once all map tasks are back without a fault.
 use Rattle.std.proofs.Common.{◌≡◌, ℕ, zero, suc, [], ◌∷◌, Bool, true, false, true≢false, List, set, Some, None, refl, sym, ap, ◌∙◌, subst}
-use Rattle.std.specs.Prelude.{◌&&◌, map, replicate}
+use Rattle.std.specs.Prelude.{map, replicate}
 use Rattle.std.specs.List.{list_all}
 use mathlib.Core.Option.{some, some-injective, some-ne-none}
 use lib.ListN.{get_elem?}
@@ -18,6 +18,7 @@ use Rattle.ssq_board.specs.Shown.{Start, first_by, first_place}
 use Rattle.ssq_board.specs.Follows.{State, Leads}
 use Rattle.ssq_board.proofs.Lists.{all_fine}
 use Rattle.ssq_ledger.specs.Shown.{Shown, Opening, IsLegal}
+use Rattle.ssq_desk.proofs.Handing.{and_right}
 
 -- with a worker, or back
 abbrev pub is_begun : Place → Bool
@@ -29,10 +30,6 @@ is_begun (place.Back f) = true
 -- where a reduce task has begun all map tasks are back without a fault
 abbrev pub IsPhased : Core → Type 0
 IsPhased c = (p : ℕ) (own : Place) → get_elem? c.reduces p ≡ some own → is_begun own ≡ true → list_all is_fine c.maps ≡ true
-
-both_right : (a b : Bool) → (a && b) ≡ true → b ≡ true
-both_right true b e = e
-both_right false b e = absurd (true≢false (sym e))
 
 -- a task that waits or is away is elsewhere
 moved_phased : (c : Core) (n : ℕ) (k : Kind) (old p : Place) → IsPhased c → get_elem? (tasks_of k c) n ≡ some old → is_fine old ≡ false → (k ≡ kind.Reduce → list_all is_fine c.maps ≡ true)
@@ -61,7 +58,7 @@ none_begun b (suc n) (suc p) own here = none_begun b n p own here
 step_phased : (r : Scope) (c : Core) (e : Entry) → May r c e → IsPhased c → IsPhased (after r c e)
 step_phased r c (entry.Plan e) m phased = λ p own here begun. absurd (true≢false (sym begun ∙ all_wait c.reduces p own here))
 step_phased r c (entry.Claim t) m phased =
-    moved_phased c t.number t.kind place.Waits place.Away phased m.4 refl (λ is. both_right c.front.fresh (list_all is_fine c.maps) (subst (λ (k : Kind). may_start c k ≡ true) is m.3))
+    moved_phased c t.number t.kind place.Waits place.Away phased m.4 refl (λ is. and_right c.front.fresh (list_all is_fine c.maps) (subst (λ (k : Kind). may_start c k ≡ true) is m.3))
 step_phased r c (entry.Report t f) m phased = away_phased c t.number t.kind (place.Back f) phased m.2
 step_phased r c (entry.Version t) m phased = away_phased c t.number t.kind (place.Back None) phased m.2
 step_phased r c (entry.Missed t) m phased = away_phased c t.number t.kind (place.Back (Some cause.DiskFault)) phased m.2

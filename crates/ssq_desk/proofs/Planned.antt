@@ -28,17 +28,13 @@ use Rattle.ssq_desk.specs.Contents.{is_away, is_gone, epochs_at, keeping_in, IsP
 use Rattle.ssq_desk.specs.Room.{AreBegun}
 use Rattle.ssq_desk.specs.Making.{AreReady}
 use Rattle.ssq_desk.proofs.Keeping.{between_held}
+use Rattle.ssq_desk.proofs.Beginnings.{slice_below}
 
 module _ {A : Type 0} where
   pub at_get : (l : List A) (i : ℕ) (a d : A) → get_elem? l i ≡ some a → get_or l i d ≡ a
   at_get [] i a d e = absurd (some-ne-none a (sym e))
   at_get (x ∷ xs) zero a d e = some-injective x a e
   at_get (x ∷ xs) (suc i) a d e = at_get xs i a d e
-
-  pub slice_below : (l : List A) (i : ℕ) (a : A) → slice_get l i ≡ Some a → i < length l
-  slice_below [] i a e = absurd (true≢false (sym (ap is_some e)))
-  slice_below (x ∷ xs) zero a e = omega arith
-  slice_below (x ∷ xs) (suc i) a e = omega (arith, slice_below xs i a e)
 
 -- a part without new lines
 pub quiet_of : (froms tos : Ends) (i : ℕ) → i < length froms → has_line_at froms tos i ≡ false → get_or (cut_of tos) i 0 ≤ get_or (cut_of froms) i 0

@@ -32,6 +32,7 @@ use Rattle.ssq_board.specs.declared.front.Place.TheVariants as place
 use Rattle.ssq_board.specs.Core.{Scope, Core, May, HasCause, is_stopped, fault_at, due, due_stop, or_stop}
 use Rattle.ssq_board.proofs.Leasts.{cause_counts}
 use Rattle.ssq_board.proofs.Lists.{at_length, set_length}
+use Rattle.ssq_board.proofs.Keeping.{or_stop_none}
 use Rattle.ssq_ledger.specs.Shown.{Shown, IsInOrder, HasRisen, cuts_of, did, answer}
 use Rattle.ssq_terms.specs.Rows.{PartitionsShowRows, PartitionsCountRows}
 use Rattle.ssq_desk.specs.declared.desk.Load.{Load}
@@ -46,7 +47,7 @@ use Rattle.ssq_desk.specs.Whole.{IsWhole, opening_in}
 use Rattle.ssq_desk.specs.Published.{AreRowsOf, IsCommitOf}
 use Rattle.ssq_desk.proofs.Holding.{put_is, holds_on, holds_out, never_key}
 use Rattle.ssq_desk.proofs.Handing.{moved_whole}
-use Rattle.ssq_desk.proofs.Reducing.{runs_by, stops_by, faulty_by}
+use Rattle.ssq_desk.proofs.Reducing.{stops_by, faulty_by}
 use Rattle.ssq_desk.proofs.Settling.{disk_no_log}
 use Rattle.ssq_desk.proofs.Wholes.{cause_stops, cuts_then, stopped_whole, with_pending}
 
@@ -129,7 +130,7 @@ module _ {D L S F : Type 0} (stores logs : Type 0) (history : D → History) (li
       moved_whole stores logs history lines available answers faults written sealed shown load whole disk (entry.Report (out_id epoch) f) load (λ cuts c. refl) refl refl refl refl whole.told whole.told_room
       (λ stopped. faulty_by old more (λ e. whole.faulty e) (λ run is_due. absurd (no_log (out_stops shown.core.outs f cause.LogFault order.sound.outs is_due))) stopped)
       (holds_out (stores × logs) (Owns stores logs history lines shown) lines available (LogWent logs lines available answers faults) shown.opening.logs.items written sealed s cuts shown.scope.available shown.core (or_stop old (if is_stopped old then None else more)) (place.Back f) load.part_logs.items load.shares.items load.shares.items load.held.items load.out load.out load.seen load.pending
-      (runs_by old (if is_stopped old then None else more)) whole.holds back_waits refl
+      (or_stop_none old (if is_stopped old then None else more)) whole.holds back_waits refl
       (λ run opened. elim (whole.holds.epoch run opened).last [ inl waits ↦ absurd (waits_away (sym waits ∙ may.2)) | inr fine ↦ fine ])
       (still_by old more whole.holds.still (λ is_due. never_key (stores × logs) (Owns stores logs history lines shown) s cuts shown.core.front.committed cause.KeyOverflow (may_stop (stores × logs) (Owns stores logs history lines shown) s cuts shown.core.front.committed shown.scope shown.core f cause.KeyOverflow has (out_stops shown.core.outs f cause.KeyOverflow order.sound.outs is_due)) refl))
       (λ g stopped. stops_by (stores × logs) (Owns stores logs history lines shown) s cuts shown.core.front.committed (key_in load.shares.items) old more g stopped whole.holds.stop

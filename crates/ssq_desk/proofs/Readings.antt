@@ -1,5 +1,5 @@
 -- The files that make a state, in a list.
-use Rattle.std.proofs.Common.{◌≡◌, ◌⊎◌, ◌<◌, ◌≤◌, ◌+◌, ◌-◌, ◌++◌, ◌||◌, [], ◌∷◌, ℕ, zero, suc, Bool, true, false, true≢false, List, Option, Some, None, Result, Ok, Err, if◌then◌else◌, refl, sym, ap, ◌∙◌, subst, inl, inr, arith}
+use Rattle.std.proofs.Common.{◌≡◌, ◌⊎◌, ◌<◌, ◌≤◌, ◌+◌, ◌-◌, ◌++◌, ◌||◌, [], ◌∷◌, ℕ, zero, suc, Bool, true, false, List, Option, Some, None, Result, Ok, Err, if◌then◌else◌, refl, sym, ap, ◌∙◌, subst, inl, inr, arith}
 use Rattle.std.specs.Prelude.{All, IfOk, IfSome, is_some}
 use Rattle.std.specs.Global.{Vec}
 use Rattle.std.proofs.lemmas.Bool.{cases_lt, or_right, or_left}
@@ -13,11 +13,9 @@ use Rattle.ssq_upkeep.specs.Upkeep.{is_among}
 use Rattle.ssq_version.specs.State.{State}
 use Rattle.ssq_store.specs.Loaded.{content_in, files_in, IsDamaged, DamagedByEither, Makes, IsNoDelta}
 use Rattle.ssq_board.specs.declared.front.Cause.{Cause}
+use Rattle.ssq_promise.proofs.Knowing.{false_true}
 use Rattle.ssq_ledger.specs.Names.{IsNewestBelow}
 use Rattle.ssq_desk.specs.Upkeep.{IsNotFound, IsReadBy, IsUnread, deltas_from, files_for, names_in}
-
-false_true : {A : Type 0} → false ≡ true → A
-false_true e = absurd (true≢false (sym e))
 
 -- ---- the names that are needed
 

@@ -21,6 +21,7 @@ use Rattle.ssq_task.specs.Reducing.{IsBack, IsIndexed, IsReduced, written_in}
 use Rattle.ssq_store.specs.Loaded.{count_to}
 use Rattle.ssq_core.specs.Course.{Cuts}
 use Rattle.ssq_course.specs.Setting.{Setting, course_of}
+use Rattle.ssq_course.proofs.Causal.{none_of}
 use Rattle.ssq_board.specs.declared.front.Cause.{Cause}
 use Rattle.ssq_board.specs.declared.front.Cause.TheVariants as cause
 use Rattle.ssq_board.specs.declared.front.Place.{Place}
@@ -74,10 +75,6 @@ back_share owned written s cuts e p (Err w) f x shown printable is brought = rec
     failed b = true≢false (ap is_some (sym is) ∙ ap (λ (p : Place). is_some (fault_at p)) b)
 
 -- ---- whether a task has a fault
-
-none_of : {A : Type 0} (o : Option A) → is_some o ≡ false → o ≡ None
-none_of None is = refl
-none_of (Some x) is = absurd (true≢false is)
 
 -- what a task that is back says of the keys of its partition
 abbrev pub own_of : {S F : Type 0} (s : Setting) (cuts : Cuts) (e p : ℕ) → Outcome S F → Type 0
@@ -259,7 +256,3 @@ stops_by reads owned s cuts e key (Some f) more g is before own = before g is
 pub faulty_by : {P : Type 0} (old more : Option Cause) → (old ≡ Some cause.LogFault → P) → (old ≡ None → more ≡ Some cause.LogFault → P) → or_stop old (if is_stopped old then None else more) ≡ Some cause.LogFault → P
 faulty_by None more before own is = own refl is
 faulty_by (Some f) more before own is = before is
-
-pub runs_by : (old more : Option Cause) → or_stop old more ≡ None → old ≡ None
-runs_by None more is = refl
-runs_by (Some f) more is = is

@@ -9,7 +9,6 @@ use Rattle.ssq_meaning.specs.Parts.{Part}
 use Rattle.ssq_meaning.specs.Cut.{Cut, of_parts}
 use Rattle.ssq_meaning.specs.Feeding.{LineAt, fault_in, or_else}
 use Rattle.ssq_meaning.specs.Epochs.{fault, fault_between, key_fault, of_line, of_key}
-use Rattle.ssq_desk.proofs.Handing.{part_there}
 use Rattle.ssq_meaning.specs.Meaning.{Line, Values}
 use Rattle.ssq_route.specs.Buckets.{bucket_at}
 use Rattle.ssq_feed.specs.declared.task.FedRows.{FedRows}
@@ -37,9 +36,10 @@ use Rattle.ssq_route.specs.Place.{place_of}
 use Rattle.ssq_meaning.specs.Epochs.{bucket}
 use Rattle.ssq_feed.specs.Causes.{FeedCause}
 use Rattle.ssq_feed.proofs.Dealing.{buckets_are, buckets_count}
+use Rattle.ssq_sink.proofs.Passes.{get_some as part_there}
 use Rattle.ssq_desk.specs.Results.{cause_of_feed}
 use Rattle.ssq_desk.specs.Contents.{IsBrought, IsMapped, IsCauseIn, IsStopOf, line_of}
-use Rattle.ssq_desk.proofs.Planned.{slice_below}
+use Rattle.ssq_desk.proofs.Beginnings.{slice_below}
 
 first_own : {L : Type 0} {at : Option LineAt} (tells logs : Type 0) (lines : L → List Line) (query : Bound) (part : Part) (from to : ℕ) (before : L) → tells → (tells → logs) → (tells → lines before ≡ part.lines)
     → fault_in query (record { stream = part.stream; part = part.part; lines = lines before }) from to ≡ at → fault_in query part from to ≡ at

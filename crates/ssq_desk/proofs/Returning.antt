@@ -34,6 +34,7 @@ use Rattle.ssq_board.specs.Core.{Core, May, after, due_stop, due, or_stop, is_st
 use Rattle.ssq_board.specs.Follows.{IsOwn, IsOwnBy}
 use Rattle.ssq_board.proofs.Leasts.{cause_counts}
 use Rattle.ssq_board.proofs.Lists.{at_length, there_at, set_length, put_here, put_else}
+use Rattle.ssq_board.proofs.Keeping.{or_stop_none}
 use Rattle.ssq_ledger.specs.Shown.{Shown, IsLegal, IsInOrder, cuts_of}
 use Rattle.ssq_terms.specs.Laws.{FaultsAreOfTasks}
 use Rattle.ssq_desk.specs.declared.desk.Load.{Load}
@@ -47,7 +48,7 @@ use Rattle.ssq_desk.specs.Contents.{IsPartLogOf, IsMapped, IsCauseIn, IsStopOf, 
 use Rattle.ssq_desk.specs.Closing.{HasFaulty}
 use Rattle.ssq_desk.specs.Whole.{IsWhole, HoldsIn, opening_in}
 use Rattle.ssq_desk.proofs.Holding.{holds_map, put_both, put_is}
-use Rattle.ssq_desk.proofs.Reducing.{faulty_by, not_calm}
+use Rattle.ssq_desk.proofs.Reducing.{faulty_by, not_calm, back_rests}
 use Rattle.ssq_desk.proofs.Handing.{parts_count, tos_count, tos_within}
 use Rattle.ssq_desk.proofs.Wholes.{rises_some}
 use Rattle.ssq_desk.proofs.Reporting.{brought_of, cause_of_fed, map_stops}
@@ -76,9 +77,6 @@ same_fault f g h is e = same_Some h g (sym is ∙ ap fault_at e)
 
 has_fault : (f : Option Cause) (h : Cause) → f ≡ Some h → place.Back f ≡ place.Back None → ⊥
 has_fault f h is e = true≢false (ap is_some (sym is) ∙ ap (λ o. is_some (fault_at o)) e)
-
-back_rests : (f : Option Cause) → place.Back f ≡ place.Rests → ⊥
-back_rests f e = cc
 
 module _ {L : Type 0} (tells logs : Type 0) (lines : L → List Line) (available : L → ℕ) (answers : L → List ℕ) (faults : L → ℕ) (so : tells → logs) where
   -- what a desk keeps of a map task that is back
@@ -128,10 +126,6 @@ module _ {L : Type 0} (tells logs : Type 0) (lines : L → List Line) (available
       own_cause cause.DiskFault c' = tt
       own_cause (cause.Damaged q) c' = tt
       own_cause cause.Full c' = tt
-
-first_none : (o p : Option Cause) → or_stop o p ≡ None → o ≡ None
-first_none None p e = refl
-first_none (Some f) p e = e
 
 -- the part whose log is with a worker
 pub old_part_log : {L : Type 0} (c : Core) (part_logs : List (PartLog L)) (i : ℕ) → length c.maps ≡ length part_logs → get_elem? c.maps i ≡ some place.Away → (old : PartLog L) × (get_elem? part_logs i ≡ some old)
@@ -248,7 +242,7 @@ module _ {D L S F : Type 0} (stores logs : Type 0) (history : D → History) (li
       (λ p waits. (let l = at_length c.reduces p place.Waits waits in let reduces = order.sound.reduces in let scoped = whole.round.partitions in omega (arith, l, reduces, scoped)))
       h.lines_are (h.enough opened) (from ∙ was.begins) h.fault fed h.rows h.why)) in
       holds_map (stores × logs) (Owns stores logs history lines shown) lines available (LogWent logs lines available answers faults) shown.opening.logs.items written sealed s cuts shown.scope.available c (or_stop c.front.stop (due c (map_id done.epoch done.number) f)) done.number (place.Back f) x load.part_logs.items load.shares.items load.held.items load.out load.seen load.pending
-      (first_none c.front.stop (due c (map_id done.epoch done.number) f)) whole.holds part_log mapped (stills mapped c.front.stop refl) (stops mapped c.front.stop refl)
+      (or_stop_none c.front.stop (due c (map_id done.epoch done.number) f)) whole.holds part_log mapped (stills mapped c.front.stop refl) (stops mapped c.front.stop refl)
     where
       f : Option Cause
       f = fault_of (cause_of_feed done.stream done.part) done.outcome

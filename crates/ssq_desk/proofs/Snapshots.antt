@@ -1,5 +1,5 @@
 -- The files of a desk make the state of the snapshot that is due.
-use Rattle.std.proofs.Common.{◌≡◌, ◌⊎◌, ◌<◌, ◌≤◌, ◌+◌, ◌^◌, ℕ, suc, true, false, true≢false, List, [], length, Option, Some, None, refl, sym, ap, ◌∙◌, subst, inl, inr, arith}
+use Rattle.std.proofs.Common.{◌≡◌, ◌⊎◌, ◌<◌, ◌≤◌, ◌+◌, ◌^◌, ℕ, suc, true, List, [], length, Option, Some, None, refl, sym, ap, ◌∙◌, subst, inl, inr, arith}
 use Rattle.std.specs.Prelude.{IfSome, IsSome, is_some}
 use Rattle.ssq_outside.specs.declared.name.Name.{Name}
 use Rattle.ssq_outside.specs.declared.name.Name.TheVariants as name
@@ -17,7 +17,7 @@ use Rattle.ssq_course.specs.Setting.{Setting, course_of, job_of, state_at}
 use Rattle.ssq_open.specs.Jobs.{IsVersion}
 use Rattle.ssq_board.specs.Shelf.{asked_in, last_of, there_in}
 use Rattle.ssq_promise.specs.Run.{KnowsState}
-use Rattle.ssq_promise.proofs.Knowing.{round_knows_state}
+use Rattle.ssq_promise.proofs.Knowing.{round_knows_state, false_true}
 use Rattle.ssq_terms.specs.Laws.{StatesAreJobs, TasksHaveTerms, due_at}
 use Rattle.ssq_terms.specs.Opening.{DeskOpensAsFound}
 use Rattle.ssq_ledger.specs.Names.{IsNewestBelow}
@@ -30,9 +30,6 @@ use Rattle.ssq_desk.specs.Whole.{opening_in}
 use Rattle.ssq_desk.proofs.Beginnings.{begins_on}
 use Rattle.ssq_desk.proofs.Missing.{missing_is_absent}
 use Rattle.ssq_desk.proofs.Readings.{IsNeeded, a_delta, a_snapshot, floor_of, needed_is, needs_delta, needs_snapshot, read_is, some_read}
-
-false_true : {A : Type 0} → false ≡ true → A
-false_true e = absurd (true≢false (sym e))
 
 -- the newest snapshot lies below
 pub newest_older : (p v : ℕ) (names : List Name) (below : Option ℕ) → IsNewestBelow p v names below → IfSome below (λ b. b < v)

@@ -18,6 +18,7 @@ use Rattle.ssq_store.specs.declared.fault.SnapshotFault.{SnapshotFault}
 use Rattle.ssq_store.specs.declared.fault.SnapshotFault.TheVariants as snapshot
 use Rattle.ssq_store.specs.Loaded.{AreTrue, IsDamaged, IsDelta, Makes, SnapshotFails, files_in}
 use Rattle.ssq_store.specs.Fault.{SnapshotRises}
+use Rattle.ssq_upkeep.proofs.Among.{among_both}
 use Rattle.ssq_task.specs.declared.partition.Held.{Held}
 use Rattle.ssq_core.specs.Course.{Course, Cuts, truth}
 use Rattle.ssq_course.specs.Setting.{Setting, course_of}
@@ -30,7 +31,6 @@ use Rattle.ssq_board.specs.declared.front.Entry.TheVariants as entry
 use Rattle.ssq_board.specs.Causes.{cause_of_disk}
 use Rattle.ssq_board.specs.Core.{is_of_epoch}
 use Rattle.ssq_board.specs.Shelf.{Shelf, shelf_by, there_in}
-use Rattle.ssq_board.proofs.Keeping.{among_both}
 use Rattle.ssq_ledger.specs.Shown.{LeadsHere, Shown, cuts_of, did, shelf_after, shelf_of}
 use Rattle.ssq_ledger.specs.Upkept.{IsClaimed, IsTaken}
 use Rattle.ssq_desk.specs.declared.desk.Load.{Load}

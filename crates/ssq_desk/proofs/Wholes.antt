@@ -14,7 +14,7 @@ use Rattle.ssq_board.specs.declared.front.Entry.{Entry}
 use Rattle.ssq_board.specs.declared.front.Entry.TheVariants as entry
 use Rattle.ssq_plans.specs.declared.plan.Plan.{Plan}
 use Rattle.ssq_plans.specs.declared.part.PartEnd.{PartEnd}
-use Rattle.ssq_board.specs.Core.{Scope, Core, May, HasCause, IsFull, after, after_all, cuts_by, cuts_all, is_open}
+use Rattle.ssq_board.specs.Core.{Scope, Core, May, HasCause, IsFull, after, after_all, cuts_by, is_open}
 use Rattle.ssq_board.specs.Shown.{first}
 use Rattle.ssq_board.specs.Follows.{State, Leads}
 use Rattle.ssq_ledger.specs.Shown.{Shown, Opening, IsUnplanned, cuts_after, cuts_of, did}
@@ -23,6 +23,7 @@ use Rattle.ssq_desk.specs.declared.round.Round.{Round}
 use Rattle.ssq_desk.specs.Round.{setting_of, Owns}
 use Rattle.std.specs.Global.{Vec}
 use Rattle.ssq_outside.specs.History.{History}
+use Rattle.ssq_ledger.proofs.Ledgers.{cuts_more}
 use Rattle.ssq_desk.specs.declared.desk.PartLog.{PartLog}
 use Rattle.ssq_desk.specs.declared.desk.Share.{Share}
 use Rattle.ssq_desk.specs.declared.desk.OutWork.{OutWork}
@@ -38,10 +39,6 @@ use Rattle.ssq_desk.specs.declared.told.Told.{Told}
 use Rattle.ssq_desk.specs.Closing.{AreTold, HasFaulty}
 use Rattle.ssq_desk.specs.Whole.{IsWhole, IsKept, HoldsIn, ArePlans, opening_in}
 
-cuts_more : (r : Scope) (cuts : Cuts) (c : Core) (es : List Entry) (e : Entry) → cuts_all r cuts c (es ++ e ∷ []) ≡ cuts_by r (cuts_all r cuts c es) (after_all r c es) e
-cuts_more r cuts c [] e = refl
-cuts_more r cuts c (x ∷ es) e = cuts_more r (cuts_by r cuts c x) (after r c x) es e
-
 -- the cuts after one entry more
 pub cuts_then : (o : Opening) (r : Scope) (es : List Entry) (e : Entry) → cuts_after o r (es ++ e ∷ []) ≡ cuts_by r (cuts_after o r es) (after_all r (first r o.start) es) e
 cuts_then o r es e = cuts_more r o.cuts (first r o.start) es e
@@ -51,7 +48,7 @@ pub leads_core : (tells : Type 0) (job : Job) (r : Scope) (next : Cuts → ℕ �
 leads_core tells job r next s [] n l = ap (λ (x : State). x.core) (sym l)
 leads_core tells job r next s (e ∷ es) n l = leads_core tells job r next l.0 es n l.2 ∙ (λ i. after_all r (l.1.core i) es)
 
-after_more : (r : Scope) (c : Core) (es more : List Entry) → after_all r (after_all r c es) more ≡ after_all r c (es ++ more)
+pub after_more : (r : Scope) (c : Core) (es more : List Entry) → after_all r (after_all r c es) more ≡ after_all r c (es ++ more)
 after_more r c [] more = refl
 after_more r c (e ∷ es) more = after_more r (after r c e) es more
 

@@ -9,6 +9,7 @@ use Rattle.ssq_board.specs.declared.front.Entry.{Entry}
 use Rattle.ssq_board.specs.declared.front.Entry.TheVariants as entry
 use Rattle.ssq_board.specs.Core.{Scope, Core, May, HasCause, after, cuts_by, cuts_all, extended, next_end, next_ends, within, is_behind, is_of_epoch, is_open, or_stop}
 use Rattle.ssq_board.proofs.Telling.{Runs}
+use Rattle.ssq_board.proofs.Leasts.{some_is as same_cause}
 use Rattle.ssq_drive.specs.Driven.{brings_due}
 
 -- Between so many planned epochs and so many: the cuts so far are as they were, and after them each part goes on from cut to cut to what
@@ -201,13 +202,6 @@ StopsOpen c = (f : Cause) → c.front.stop ≡ Some f → is_of_epoch f ≡ true
 
 pub none_some : (f : Cause) → None ≡ Some f → ⊥
 none_some f is = cc
-
-pub same_cause : (f g : Cause) → Some f ≡ Some g → f ≡ g
-same_cause f g is = ap (λ (o : Option Cause). or f o) is
-  where
-    or : Cause → Option Cause → Cause
-    or f None = f
-    or f (Some x) = x
 
 pub not_of_epoch : (r : Scope) (c : Core) (f : Cause) → HasCause r c f → is_of_epoch f ≡ true → ⊥
 not_of_epoch r c (cause.BadLine s p o x) has own = has

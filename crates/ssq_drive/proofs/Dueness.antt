@@ -6,16 +6,14 @@ use Rattle.ssq_outside.specs.declared.name.Name.TheVariants as name
 use Rattle.ssq_outside.specs.Files.{same_name}
 use Rattle.ssq_outside.proofs.Names.{same_name-true, same_name-same}
 use Rattle.ssq_upkeep.specs.Upkeep.{Goes, IsDue, MayGo, is_among, is_sure, is_up_to}
+use Rattle.ssq_upkeep.proofs.Among.{among_both}
+use Rattle.ssq_upkeep.proofs.Leasts.{snapshot_numbers, apart as delta_snapshot}
 use Rattle.ssq_board.specs.Shelf.{without}
-use Rattle.ssq_board.proofs.Keeping.{among_both, among_end}
+use Rattle.ssq_board.proofs.Keeping.{among_end}
 
 pub first_of : (a b : Bool) → (a || b) ≡ false → a ≡ false
 first_of true b is = absurd (true≢false is)
 first_of false b is = refl
-
-pub either_of : (a b : Bool) → (a || b) ≡ true → (a ≡ true) ⊎ (b ≡ true)
-either_of true b is = inl refl
-either_of false b is = inr is
 
 -- what is settled is there
 pub among_first : (a b : List Name) (q : Name) → is_among a q ≡ true → is_among (a ++ b) q ≡ true
@@ -62,20 +60,6 @@ without_less q x (n ∷ ns) there = by (same_name n q) there (without_less q x n
     by true there rest = or_right (same_name n x) (is_among ns x) (rest there)
     by false there rest = or_second (same_name n x) there rest
 
-snapshot_same : (p v i w : ℕ) → name.Snapshot p v ≡ name.Snapshot i w → (p ≡ i) × (v ≡ w)
-snapshot_same p v i w is = (ap (part p) is, ap (version v) is)
-  where
-    part : ℕ → Name → ℕ
-    part d (name.Snapshot p v) = p
-    part d q = d
-
-    version : ℕ → Name → ℕ
-    version d (name.Snapshot p v) = v
-    version d q = d
-
-delta_snapshot : (p v i w : ℕ) → name.Delta p v ≡ name.Snapshot i w → ⊥
-delta_snapshot p v i w is = cc
-
 -- a snapshot that may go lies below one that no crash can take away, and that stays
 module _ (settled : List Name) (last : Option ℕ) (q : Name) (may : MayGo (is_sure settled last) q) where
   record IsBelow (p v : ℕ) : Type 0 where
@@ -88,7 +72,7 @@ module _ (settled : List Name) (last : Option ℕ) (q : Name) (may : MayGo (is_s
   below p v is = elim may.is [
     | inl delta ↦ absurd (delta_snapshot may.p may.v p v (sym delta.0 ∙ sym is))
     | inr snapshot ↦ (
-        let same = snapshot_same may.p may.v p v (sym snapshot.0 ∙ sym is) in
+        let same = snapshot_numbers may.p may.v p v (sym snapshot.0 ∙ sym is) in
         let less = snapshot.1 in
         let own_v = same.1 in
         let above : v < may.s = omega (arith, less, own_v) in
@@ -96,7 +80,7 @@ module _ (settled : List Name) (last : Option ℕ) (q : Name) (may : MayGo (is_s
         record {
           floor = may.s;
           above = above;
-          there = without_keeps q (name.Snapshot p may.s) settled (λ other. (let e = (snapshot_same p may.s p v (other ∙ sym is)).1 in omega (arith, e, above))) at;
+          there = without_keeps q (name.Snapshot p may.s) settled (λ other. (let e = (snapshot_numbers p may.s p v (other ∙ sym is)).1 in omega (arith, e, above))) at;
           old = may.acknowledged;
         }
         )

@@ -1,5 +1,5 @@
 -- Turns one after another.
-use Rattle.std.proofs.Common.{◌≡◌, ◌≤◌, ◌++◌, ◌||◌, ℕ, Bool, true, false, true≢false, List, [], ◌∷◌, Option, Some, None, IfSome, sym, refl, ap, ◌∙◌, subst, append_assoc, append-nil, le_refl, arith}
+use Rattle.std.proofs.Common.{◌≡◌, ◌≤◌, ◌++◌, ◌||◌, ℕ, Bool, true, false, true≢false, List, [], ◌∷◌, Option, Some, None, IfSome, sym, refl, ap, ◌∙◌, subst, append_assoc, le_refl, arith}
 use Rattle.std.specs.List.{list_any}
 use Rattle.ssq_outside.specs.declared.name.Name.{Name}
 use Rattle.ssq_outside.specs.Faults.{Rises}
@@ -12,6 +12,7 @@ use Rattle.ssq_board.specs.Rounds.{IsAtRest}
 use Rattle.ssq_board.specs.Shelf.{Shelf, shelf_all, shelf_by}
 use Rattle.ssq_ledger.specs.Shown.{Shown, did}
 use Rattle.ssq_desk.specs.declared.round.Round.{Round}
+use Rattle.ssq_desk.proofs.Wholes.{after_more, did_nothing}
 use Rattle.ssq_drive.specs.Driven.{StopsFor, IsDriven, brings_due, no_file}
 
 none_more : (es fs : List Entry) → list_any brings_due es ≡ false → list_any brings_due fs ≡ false → list_any brings_due (es ++ fs) ≡ false
@@ -41,10 +42,6 @@ earlier_if : (P : Name → Type 0) (r : Scope) (c : Core) (before mid now : ℕ)
 earlier_if P r c before mid now None le why = tt
 earlier_if P r c before mid now (Some f) le why = earlier P r c before mid now f le why
 
-pub after_more : (r : Scope) (c : Core) (es fs : List Entry) → after_all r (after_all r c es) fs ≡ after_all r c (es ++ fs)
-after_more r c [] fs = refl
-after_more r c (e ∷ es) fs = after_more r (after r c e) es fs
-
 module _ {D O : Type 0} where
   pub did_more : (a b c : Shown D O) (es fs : List Entry) → b ≡ did a b.disk es → c ≡ did b c.disk fs → c ≡ did a c.disk (es ++ fs)
   did_more a b c es fs first later =
@@ -52,9 +49,6 @@ module _ {D O : Type 0} where
       let entries = append_assoc a.history es fs in
       later ∙ ap (λ (s : Shown D O). did s c.disk fs) first
       ∙ (λ i. record { opening = a.opening; opened = a.opened; scope = a.scope; disk = c.disk; core = cores i; history = entries i })
-
-  did_none : (a : Shown D O) → a ≡ did a a.disk []
-  did_none a = (let entries = sym (append-nil a.history) in λ i. record { opening = a.opening; opened = a.opened; scope = a.scope; disk = a.disk; core = a.core; history = entries i })
 
 -- a cause that no damaged file has is one in any case
 no_files : (P : Name → Type 0) (r : Scope) (c : Core) (before now : ℕ) (f : Cause) → StopsFor no_file r c before now f → StopsFor P r c before now f
@@ -91,7 +85,7 @@ driven_any faults P closing a b d = record {
 -- no turn
 pub undriven : {D O : Type 0} (faults : D → ℕ) (P : Shown D O → Name → Type 0) (closing : Bool) (a : Shown D O) → IsAtRest a.core → IsDriven faults P closing a a
 undriven faults P closing a rest = record {
-  entries = ([], did_none a);
+  entries = ([], did_nothing a);
   stopped = λ f stops. refl;
   rest = rest;
   quiet = λ none. refl;

@@ -37,7 +37,7 @@ use Rattle.ssq_board.specs.declared.front.Ready.TheVariants as ready
 use Rattle.ssq_board.specs.Core.{Scope, Core, after, after_all, cuts_by, cuts_all, dealt, extended, has_line_at, next_ends, if_map, tasks_of, is_fine, is_open, is_stopped, is_waiting, ready_of, ready_tasks}
 use Rattle.ssq_board.specs.Shown.{Start, first, first_by, planned_by}
 use Rattle.ssq_board.proofs.Lists.{all_fine, at_length, dealt_at, dealt_length, set_length, there_at}
-use Rattle.ssq_board.proofs.Readies.{past, chosen, commit_may, none_of_tasks}
+use Rattle.ssq_board.proofs.Readies.{past, chosen, commit_may}
 use Rattle.ssq_ledger.specs.Shown.{Shown, Opening, cuts_of, did}
 use Rattle.ssq_desk.specs.declared.round.Round.{Round}
 use Rattle.ssq_desk.specs.First.{first_shown, BeginsAs}
@@ -47,8 +47,9 @@ use Rattle.ssq_desk.specs.Results.{IsReturned, cause_of_feed, fault_of}
 use Rattle.ssq_desk.specs.Round.{setting_of}
 use Rattle.ssq_desk.specs.Tasks.{map_id, reduce_id, out_id}
 use Rattle.ssq_desk.specs.Whole.{opening_in}
+use Rattle.ssq_desk.proofs.Betweens.{tasks_not}
+use Rattle.ssq_desk.proofs.Wholes.{after_more}
 use Rattle.ssq_drive.specs.Good.{HasGoodLines, IsGoodAt, IsGood}
-use Rattle.ssq_drive.proofs.Going.{after_more}
 use Rattle.ssq_drive.proofs.Starting.{planned_found}
 
 -- ---- lists
@@ -225,14 +226,10 @@ cuts_more : (r : Scope) (es fs : List Entry) (cuts : Cuts) (c : Core) → cuts_a
 cuts_more r [] fs cuts c = refl
 cuts_more r (e ∷ es) fs cuts c = cuts_more r es fs (cuts_by r cuts c e) (after r c e)
 
--- where an epoch is to be planned none is open
-pub tasks_no_plan : (c : Core) → ready_tasks c ≡ ready.Plan → ⊥
-tasks_no_plan c = none_of_tasks c ready.Plan refl
-
 plan_closed : (r : Scope) (c : Core) → ready_of r c ≡ ready.Plan → is_open c ≡ false
 plan_closed r c next =
     let a = past (is_stopped c.front.stop) _ _ _ next (λ x. cc) in
-    elim (chosen (is_open c) (ready_tasks c) _ _ a.1) [ inl opened ↦ absurd (tasks_no_plan c opened.1) | inr closed ↦ closed.0 ]
+    elim (chosen (is_open c) (ready_tasks c) _ _ a.1) [ inl opened ↦ absurd (tasks_not c opened.1) | inr closed ↦ closed.0 ]
 
 commit_fine : (r : Scope) (c : Core) → ready_of r c ≡ ready.Commit → (is_open c ≡ true) × (list_all is_fine c.maps ≡ true)
 commit_fine r c next =
@@ -264,7 +261,7 @@ same_part one other is = ap (λ (o : Option Part). or one o) is
     or d (Some x) = x
 
 -- the disk is as it was
-still : {D O : Type 0} (old new : Shown D O) (es : List Entry) → new ≡ did old old.disk es → new ≡ did old new.disk es
+pub still : {D O : Type 0} (old new : Shown D O) (es : List Entry) → new ≡ did old old.disk es → new ≡ did old new.disk es
 still old new es is = is ∙ ap (λ (d : _). did old d es) (sym (ap (λ s. s.disk) is))
 
 -- ---- a desk

@@ -1,5 +1,5 @@
 -- The causes that tasks bring are none of the desk's.
-use Rattle.std.proofs.Common.{◌≡◌, ℕ, true, Option, Some, None, IfSome, Result, Ok, Err, subst}
+use Rattle.std.proofs.Common.{◌≡◌, ℕ, true, Option, Some, IfSome, Result, Ok, Err, subst}
 use Rattle.ssq_json.specs.declared.bad_row.BadRow.{BadRow}
 use Rattle.ssq_json.specs.declared.bad_row.BadRow.TheVariants as bad
 use Rattle.ssq_feed.specs.declared.task.FedRows.{FedRows}
@@ -13,6 +13,7 @@ use Rattle.ssq_board.specs.Core.{Scope, Core, is_open}
 use Rattle.ssq_desk.specs.Contents.{IsReducedCause}
 use Rattle.ssq_desk.specs.Results.{cause_of_bad, cause_of_feed, cause_of_reduce, cause_of_failed, fault_of}
 use Rattle.ssq_drive.specs.Driven.{StopsFor, no_file}
+use Rattle.ssq_drive.proofs.Cutting.{none_some}
 
 -- the desk accounts for it on any terms, where an epoch is open
 abbrev pub IsOfInput : Cause → Type 0
@@ -20,9 +21,6 @@ IsOfInput g = (r : Scope) (n : Core) (before now : ℕ) → is_open n ≡ true �
 
 given : (o : Option Cause) (f g : Cause) → IsOfInput f → Some f ≡ o → o ≡ Some g → IsOfInput g
 given o f g own is same r n before now opened = subst (λ (x : Option Cause). IfSome x (StopsFor no_file r n before now)) same (subst (λ (x : Option Cause). IfSome x (StopsFor no_file r n before now)) is (own r n before now opened))
-
-none_some : (g : Cause) → None ≡ Some g → ⊥
-none_some g is = cc
 
 bad_stops : (stream part offset : ℕ) (what : BadRow) → IsOfInput (cause_of_bad stream part offset what)
 bad_stops stream part offset bad.TooLong r n before now opened = tt

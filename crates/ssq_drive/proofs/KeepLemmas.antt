@@ -9,6 +9,7 @@ use Rattle.ssq_outside.specs.Files.{same_name}
 use Rattle.ssq_outside.specs.Faults.{Rises}
 use Rattle.ssq_outside.proofs.Names.{same_name-same}
 use Rattle.ssq_upkeep.specs.Upkeep.{Goes, IsDue, is_among}
+use Rattle.ssq_upkeep.proofs.Among.{among_both}
 use Rattle.ssq_board.specs.declared.front.Cause.{Cause}
 use Rattle.ssq_board.specs.declared.front.Cause.TheVariants as cause
 use Rattle.ssq_board.specs.declared.front.Entry.{Entry}
@@ -18,19 +19,22 @@ use Rattle.ssq_board.specs.Core.{Scope, Core, after, after_all, is_open, is_more
 use Rattle.ssq_board.specs.Rounds.{IsAtRest, epochs_left, left, one_if, weigh, weight}
 use Rattle.ssq_board.specs.Shelf.{Shelf, acknowledged_in, asked_in, last_before, last_of, shelf_all, shelf_by, snapshot_on, there_in, version_on, without}
 use Rattle.ssq_board.specs.Shown.{first}
-use Rattle.ssq_board.proofs.Keeping.{among_both, up_to_is}
+use Rattle.ssq_board.proofs.Keeping.{up_to_is}
 use Rattle.ssq_board.proofs.Readies.{past, over_is}
 use Rattle.ssq_board.proofs.Resting.{front_here}
-use Rattle.ssq_board.proofs.Telling.{Runs}
+use Rattle.ssq_board.proofs.Telling.{Runs, now_stopped}
+use Rattle.ssq_board.proofs.Sounds.{running_of}
+use Rattle.ssq_promise.proofs.Truths.{either_of}
 use Rattle.ssq_ledger.specs.Shown.{Opening, Shown, HasRisen, did, shelf_of}
 use Rattle.ssq_ledger.specs.Upkept.{NoneIsDue, NoneGoes}
 use Rattle.ssq_ledger.proofs.Ledgers.{shelf_more}
+use Rattle.ssq_ledger.proofs.Shelves.{without_most}
 use Rattle.ssq_desk.specs.Upkeep.{FailsFor}
+use Rattle.ssq_desk.proofs.Betweens.{tasks_not}
 use Rattle.ssq_drive.specs.Driven.{StopsFor, IsTidied, KeepsUp, brings_due, lacking_in, rested, unmade}
-use Rattle.ssq_drive.proofs.Dueness.{among_first, among_second, due_before, due_without, either_of, first_of, goes_settled}
+use Rattle.ssq_drive.proofs.Dueness.{among_first, among_second, due_before, due_without, first_of, goes_settled}
 use Rattle.ssq_drive.proofs.Going.{driven_more, shelf_on, undriven}
-use Rattle.ssq_drive.proofs.Goods.{tasks_no_plan}
-use Rattle.ssq_drive.proofs.Lacking.{one_made_in, one_gone, no_longer}
+use Rattle.ssq_drive.proofs.Lacking.{one_made_in, one_gone}
 use Rattle.ssq_drive.proofs.Turning.{rests}
 
 -- a desk that is stopped does not run
@@ -39,10 +43,6 @@ no_stop f o stops running = cc
 
 pub stops_not : (o : Option Cause) → o ≡ None → is_stopped o ≡ true → ⊥
 stops_not o running stopped = true≢false (sym stopped ∙ ap is_stopped running)
-
-pub or_stopped : (o : Option Cause) (f : Cause) → is_stopped (or_stop o (Some f)) ≡ true
-or_stopped None f = refl
-or_stopped (Some g) f = refl
 
 -- why a call of upkeep failed is why the desk stopped
 pub fails_stop : (IsBad P : Name → Type 0) (r : Scope) (c : Core) (before now : ℕ) (f : Cause) → ((q : Name) → IsBad q → P q) → FailsFor IsBad before now f → StopsFor P r c before now f
@@ -158,7 +158,7 @@ module _ {D O : Type 0} (faults : D → ℕ) (P : Shown D O → Name → Type 0)
       → StopsFor (P new) old.scope new.core (faults old.disk) (faults new.disk) f → faults old.disk ≤ faults new.disk → KeepsUp faults P closing old new
   keeps_unmade old new p v f is running rest why counted =
       keeps old new (entry.Upkeep p v ∷ entry.Unmade p v f ∷ []) is running rest refl (λ k none. one_claimed (name.Snapshot p v) k.claimed none)
-      (record { maps = refl; reduces = refl; outs = refl; same = inr (inr (or_stopped old.core.front.stop f)) })
+      (record { maps = refl; reduces = refl; outs = refl; same = inr (inr (now_stopped old.core.front.stop f)) })
       (subst (λ (o : Option Cause). IfSome (or_stop o (Some f)) (StopsFor (P new) old.scope new.core (faults old.disk) (faults new.disk))) (sym running) why) counted
 
   pub keeps_untaken : (old new : Shown D O) (p v : ℕ) → new ≡ did old new.disk (entry.Upkeep p v ∷ entry.Untaken p v ∷ []) → old.core.front.stop ≡ None → IsAtRest old.core → Rises (faults old.disk) (faults new.disk)
@@ -206,16 +206,12 @@ pub record IsBetween (c : Core) : Type 0 where
   pub running : c.front.stop ≡ None
   pub settled : c.front.settled ≡ true
 
-none_stops : (o : Option Cause) → is_stopped o ≡ false → o ≡ None
-none_stops None is = refl
-none_stops (Some f) is = absurd (true≢false is)
-
 pub plan_between : (r : Scope) (c : Core) → ready_of r c ≡ ready.Plan → IsBetween c
 plan_between r c next =
     let a = past (is_stopped c.front.stop) _ _ _ next (λ x. cc) in
-    let b = past (is_open c) (ready_tasks c) _ _ a.1 (tasks_no_plan c) in
+    let b = past (is_open c) (ready_tasks c) _ _ a.1 (tasks_not c) in
     let d = past (not c.front.settled) _ _ _ b.1 (λ x. cc) in
-    record { running = none_stops c.front.stop a.0; settled = not-false c.front.settled d.0 }
+    record { running = running_of c.front.stop a.0; settled = not-false c.front.settled d.0 }
 
 over_between : (r : Scope) (c : Core) → ready_of r c ≡ ready.Over → IsBetween c
 over_between r c next = (let o = over_is r c next in record { running = o.0; settled = o.2 })
@@ -420,8 +416,8 @@ module _ {D O : Type 0} (opening : O → Opening) where
   pub fewer_files : (old new : Shown D O) (q : Name) → new ≡ did old new.disk (entry.Drop q ∷ []) → is_among (there_in (shelf_of opening old)) q ≡ true → count_of new < count_of old
   fewer_files old new q is there =
       let m = shelf_of opening old in
-      let settled = no_longer q m.settled in
-      let news = no_longer q m.news in
+      let settled = without_most q m.settled in
+      let news = without_most q m.news in
       subst (λ (s : Shelf). length s.settled + length s.news < count_of old) (sym (dropped_is old new q is))
       (elim (either_of (is_among m.settled q) (is_among m.news q) (sym (among_both m.settled m.news q) ∙ there)) [
         | inl first ↦ (let less = one_gone q m.settled first in omega (arith, less, news))

@@ -7,6 +7,7 @@ use Rattle.ssq_outside.specs.Files.{same_name}
 use Rattle.ssq_upkeep.specs.Upkeep.{is_among}
 use Rattle.ssq_board.specs.Rounds.{one_if}
 use Rattle.ssq_board.specs.Shelf.{without}
+use Rattle.ssq_ledger.proofs.Shelves.{without_most}
 use Rattle.ssq_drive.specs.Driven.{lacking, lacking_in}
 
 -- what is among names is among more
@@ -72,17 +73,9 @@ one_made_in names more (suc i) n p v holds of less none there = elim (cases_lt p
 
 -- ---- names without one
 
-pub no_longer : (q : Name) (names : List Name) → length (without q names) ≤ length names
-no_longer q [] = omega arith
-no_longer q (n ∷ ns) = by (same_name n q) (no_longer q ns)
-  where
-    by : (b : Bool) → length (without q ns) ≤ length ns → length (if not b then n ∷ without q ns else without q ns) ≤ length (n ∷ ns)
-    by true rest = omega (arith, rest)
-    by false rest = omega (arith, rest)
-
 pub one_gone : (q : Name) (names : List Name) → is_among names q ≡ true → length (without q names) < length names
 one_gone q [] there = absurd (true≢false (sym there))
-one_gone q (n ∷ ns) there = by (same_name n q) there (no_longer q ns) (one_gone q ns)
+one_gone q (n ∷ ns) there = by (same_name n q) there (without_most q ns) (one_gone q ns)
   where
     by : (b : Bool) → (b || is_among ns q) ≡ true → length (without q ns) ≤ length ns → (is_among ns q ≡ true → length (without q ns) < length ns) → length (if not b then n ∷ without q ns else without q ns) < length (n ∷ ns)
     by true there le rest = omega (arith, le)

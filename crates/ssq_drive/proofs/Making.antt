@@ -18,7 +18,7 @@ use Rattle.ssq_board.specs.Core.{Core, is_stopped}
 use Rattle.ssq_board.specs.Rounds.{IsAtRest}
 use Rattle.ssq_board.specs.Shelf.{Shelf, acknowledged_in, last_of, there_in}
 use Rattle.ssq_board.proofs.Keeping.{up_to_is}
-use Rattle.ssq_ledger.specs.Names.{IsNewestBelow}
+use Rattle.ssq_board.proofs.Telling.{now_stopped}
 use Rattle.ssq_ledger.specs.Shown.{Shown, HasRisen, did, shelf_of}
 use Rattle.ssq_ledger.specs.Upkept.{NoneIsDue}
 use Rattle.ssq_desk.specs.declared.round.Round.{Round}
@@ -27,17 +27,14 @@ use Rattle.ssq_desk.specs.Contents.{keeping_in}
 use Rattle.ssq_desk.specs.Round.{Owns, setting_of}
 use Rattle.ssq_desk.specs.Upkeep.{FailsFor, AreReadFor, IsHandedOut, IsMalformed, IsMissing, IsNextDue, IsTakenBack, cause_of_snapshot, files_for, first_missing, names_in}
 use Rattle.ssq_desk.specs.Whole.{opening_in}
+use Rattle.ssq_desk.proofs.Snapshots.{newest_older}
 use Rattle.ssq_drive.specs.Damaged.{HasDamaged}
 use Rattle.ssq_drive.specs.Driven.{StopsFor, IsMade, KeepsUp}
 use Rattle.ssq_drive.specs.Good.{IsGood}
 use Rattle.ssq_drive.proofs.Dueness.{among_second}
 use Rattle.ssq_drive.proofs.Going.{did_more, earlier}
-use Rattle.ssq_drive.proofs.Goods.{good_on}
-use Rattle.ssq_drive.proofs.KeepLemmas.{IsLed, fails_stop, keeps_made, keeps_stop, keeps_still, keeps_unmade, keeps_untaken, made_less, or_stopped, shelf_did}
-
--- the disk is as it was
-pub still : {D O : Type 0} (old new : Shown D O) (es : List Entry) → new ≡ did old old.disk es → new ≡ did old new.disk es
-still {D} old new es is = is ∙ ap (λ (d : D). did old d es) (sym (ap (λ s. s.disk) is))
+use Rattle.ssq_drive.proofs.Goods.{good_on, still}
+use Rattle.ssq_drive.proofs.KeepLemmas.{IsLed, fails_stop, keeps_made, keeps_stop, keeps_still, keeps_unmade, keeps_untaken, made_less, shelf_did}
 
 err_ok : {A : Type 0} {f : Cause} {a : A} → ◌≡◌ {A = Result A Cause} (Err f) (Ok a) → ⊥
 err_ok e = cc
@@ -53,12 +50,7 @@ same_cause {A} f g is = ap or is
 sure_below : (v : ℕ) (c : Core) → is_up_to (last_of c) v ≡ true → v < acknowledged_in c
 sure_below v c is = ltb-true v (acknowledged_in c) (sym (up_to_is (acknowledged_in c) v) ∙ is)
 
--- the newest below a version lies below it
-newest_older : (p v : ℕ) (names : List Name) (below : Option ℕ) → IsNewestBelow p v names below → IfSome below (λ b. b < v)
-newest_older p v names None newest = tt
-newest_older p v names (Some b) newest = newest.0
-
-risen_from : (before mid now : ℕ) → before ≤ mid → Rises mid now → Rises before now
+pub risen_from : (before mid now : ℕ) → before ≤ mid → Rises mid now → Rises before now
 risen_from before mid now le risen = omega (arith, le, risen)
 
 module _ {D L : Type 0} (stores logs : Type 0) (history : D → History) (lines : L → List Line) (faults : D → ℕ) (closing : Bool) (old : Shown D (Round L)) (running : old.core.front.stop ≡ None) (rest : IsAtRest old.core) where
@@ -141,7 +133,7 @@ module _ {D L : Type 0} (stores logs : Type 0) (history : D → History) (lines 
   unhanded S mid f (inr (p, v, due, is, why)) still_so counted = record {
     kept = keeps_unmade faults P closing old mid p v f is running rest
         (fails_stop (IsMissing stores (Owns stores logs history lines old) (files_now (history old.disk)) p v (there_in k)) (P mid) old.scope mid.core (faults old.disk) (faults mid.disk) f (λ q bad. missing mid p v f is still_so due q bad) why) counted;
-    stopped = ap (λ (s : Shown D (Round L)). is_stopped s.core.front.stop) is ∙ or_stopped old.core.front.stop f;
+    stopped = ap (λ (s : Shown D (Round L)). is_stopped s.core.front.stop) is ∙ now_stopped old.core.front.stop f;
     good = λ good. good_on lines old mid (entry.Upkeep p v ∷ entry.Unmade p v f ∷ []) is (tt, (tt, tt)) good;
   }
 
@@ -208,7 +200,7 @@ module _ {D L : Type 0} (stores logs : Type 0) (history : D → History) (lines 
                       (earlier (P new) old.scope new.core (faults old.disk) (faults mid.disk) (faults new.disk) g first
                       (subst (StopsFor (P new) old.scope new.core (faults mid.disk) (faults new.disk)) (same_cause f g told)
                       (fails_stop (IsMalformed (Owns stores logs history lines mid) task.files.items task.partition task.version) (P new) old.scope new.core (faults mid.disk) (faults new.disk) f bad why))) counted;
-                  stopped = ap (λ (s : Shown D (Round L)). is_stopped s.core.front.stop) all ∙ or_stopped old.core.front.stop g;
+                  stopped = ap (λ (s : Shown D (Round L)). is_stopped s.core.front.stop) all ∙ now_stopped old.core.front.stop g;
                   good = λ good. good_on lines old new es all (tt, (tt, tt)) good;
                 }
 

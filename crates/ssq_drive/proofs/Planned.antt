@@ -23,9 +23,10 @@ use Rattle.ssq_board.specs.Follows.{Terms, State, Step, Leads, Goes, Shows, Show
 use Rattle.ssq_board.proofs.Following.{list_follows}
 use Rattle.ssq_board.proofs.Opening.{shows_first}
 use Rattle.ssq_board.proofs.Sounds.{first_sound, step_sound}
+use Rattle.ssq_board.proofs.Leasts.{some_is as same_cause}
 use Rattle.ssq_promise.specs.Run.{Begins}
 use Rattle.ssq_promise.proofs.Joining.{begins_shelf, shown_first}
-use Rattle.ssq_drive.proofs.Cutting.{none_some, not_of_epoch, same_cause}
+use Rattle.ssq_drive.proofs.Cutting.{none_some, not_of_epoch}
 
 waits_out : machine.waits ≡ machine.out → ⊥
 waits_out is = cc

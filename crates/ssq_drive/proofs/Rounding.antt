@@ -43,6 +43,7 @@ use Rattle.ssq_terms.specs.Laws.{PartsAreFound, TasksHaveTerms, HasTerms, Unmark
 use Rattle.ssq_terms.specs.Opening.{DeskOpensAsFound}
 use Rattle.ssq_terms.specs.Partitions.{HoldsStateOf}
 use Rattle.ssq_promise.specs.Run.{Begins, CallFailed, IsLeft, AreFilesOf, RoundGoesOn, RoundIsRun, RoundLeavesFound, RoundLeavesTrue, WasRun, WentOn, as_planned, one_tried}
+use Rattle.ssq_promise.proofs.Truths.{either_of}
 use Rattle.ssq_ledger.specs.Shown.{Shown, Opening, IsLegal, IsInOrder, cuts_of, did, first_state, shelf_of, state}
 use Rattle.ssq_desk.specs.declared.closed.NextRound.{NextRound}
 use Rattle.ssq_desk.specs.declared.round.Round.{Round}
@@ -158,10 +159,6 @@ told_near planned committed settled near = by (nat_lt committed planned) refl se
     by true opened b = omega (arith, near)
     by false closed true = omega (arith, near)
     by false closed false = (let none = ltb-false committed planned closed in omega (arith, none))
-
-either_of : (a b : Bool) → (a || b) ≡ true → (a ≡ true) ⊎ (b ≡ true)
-either_of true b is = inl refl
-either_of false b is = inr is
 
 -- a key is told on weaker grounds
 stop_on : (tells one other : Type 0) (s : Setting) (cuts : Cuts) (e : ℕ) (key : Option Values) (f : Cause) → (other → one) → IsStopOf tells one s cuts e key f → IsStopOf tells other s cuts e key f

@@ -1,5 +1,5 @@
 -- What is told of the epochs of a round, by its plans.
-use Rattle.std.proofs.Common.{◌≡◌, ◌≤◌, ◌+◌, ◌<◌, ℕ, suc, false, true≢false, List, [], ◌∷◌, length, map, All, Option, Some, None, is_some, sym, refl, ap, ◌∙◌, subst, arith}
+use Rattle.std.proofs.Common.{◌≡◌, ◌≤◌, ◌+◌, ◌<◌, ℕ, suc, false, List, [], ◌∷◌, length, map, All, sym, refl, ap, ◌∙◌, subst, arith}
 use Rattle.std.proofs.lemmas.List.Elements.{All-nil, All-cons}
 use mathlib.Core.Option.{some}
 use lib.ListN.{get_elem?}
@@ -9,16 +9,13 @@ use Rattle.ssq_plans.specs.declared.plan.Plan.{Plan}
 use Rattle.ssq_core.specs.Course.{Cuts, Ends}
 use Rattle.ssq_course.specs.Setting.{Setting, parts_in, watermark_at, is_faulty_at}
 use Rattle.ssq_course.specs.Setting.{cut_of as offsets_of, cuts_of as offsets}
+use Rattle.ssq_course.proofs.Causal.{none_of}
 use Rattle.ssq_open.specs.Epochs.{cut_of}
 use Rattle.ssq_board.specs.Told.{AreFrom}
 use Rattle.ssq_desk.specs.declared.told.Told.{Told}
 use Rattle.ssq_desk.specs.Closing.{IsToldOf, lines_between}
 use Rattle.ssq_drive.specs.Good.{HasGoodLines}
 use Rattle.ssq_drive.specs.Rounds.{AreTold, IsMeant}
-
-none_of : {A : Type 0} (o : Option A) → is_some o ≡ false → o ≡ None
-none_of None is = refl
-none_of (Some a) is = absurd (true≢false is)
 
 module _ (owned : Type 0) (s : Setting) (cuts : Cuts) where
   -- each of these epochs, from one on, is told so

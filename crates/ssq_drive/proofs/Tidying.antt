@@ -20,9 +20,9 @@ use Rattle.ssq_desk.specs.declared.round.Round.{Round}
 use Rattle.ssq_desk.specs.Contents.{keeping_in}
 use Rattle.ssq_desk.specs.Round.{setting_of}
 use Rattle.ssq_desk.specs.Whole.{opening_in}
+use Rattle.ssq_desk.proofs.Wholes.{after_more}
 use Rattle.ssq_drive.specs.Driven.{IsCleared, IsEnded, IsMade, IsTidied, IsUpkept, KeepsUp, unmade}
 use Rattle.ssq_drive.specs.Good.{IsGood}
-use Rattle.ssq_drive.proofs.Going.{after_more}
 use Rattle.ssq_drive.proofs.Goods.{good_on}
 use Rattle.ssq_drive.proofs.KeepLemmas.{IsBetween, IsClearing, IsLed, count_of, fewer_files, keeps_drop, keeps_more, keeps_stop, keeps_sync, keeps_undropped, old_desk, one_cleared, over_kept, runs_core, stopped_ready, tidied_due, tidied_goes, tidied_news, tidied_runs, tidied_settled, tidied_tidy}
 

@@ -15,10 +15,10 @@ use Rattle.ssq_board.specs.Shelf.{Shelf, shelf_all}
 use Rattle.ssq_board.specs.Shown.{IsSound}
 use Rattle.ssq_board.specs.Rounds.{HasCap, IsAtRest, is_away, one_if, weigh, epochs_left, weight, left}
 use Rattle.ssq_board.proofs.Falls.{plan_falls, sync_falls, commit_falls}
-use Rattle.ssq_board.proofs.Readies.{past, plan_may, full_is, commit_may, sync_due}
+use Rattle.ssq_board.proofs.Readies.{plan_may, full_is, commit_may, sync_due}
 use Rattle.ssq_board.proofs.Resting.{plan_turn, sync_turn, commit_turn, front_here}
-use Rattle.ssq_board.proofs.Sounds.{running_of}
 use Rattle.ssq_ledger.specs.Shown.{Shown, HasRisen, IsUnplanned, did}
+use Rattle.ssq_ledger.proofs.Planning.{plan_runs}
 use Rattle.ssq_drive.specs.Driven.{StopsFor, no_file, IsTurn, brings_due}
 
 -- a turn, as far as it goes by what a desk knows
@@ -59,10 +59,6 @@ none_left r c n running stopped = by (is_stopped c.front.stop) (is_stopped n.fro
     by false true x y runs stops = omega arith
     by false false x y runs stops = absurd (true≢false (sym stops))
     by true b x y runs stops = absurd (true≢false runs)
-
--- where the next epoch is to be planned the desk runs
-plan_runs : (r : Scope) (c : Core) → ready_of r c ≡ ready.Plan → c.front.stop ≡ None
-plan_runs r c next = running_of c.front.stop (past (is_stopped c.front.stop) _ _ _ next (λ x. cc)).0
 
 pub stop_goes : (r : Scope) (c : Core) (f : Cause) (before now : ℕ) → c.front.stop ≡ None → IsAtRest c → StopsFor no_file r (after r c (entry.Stop f)) before now f → Goes r c (after r c (entry.Stop f)) before now
 stop_goes r c f before now running rest why = record {

@@ -20,11 +20,13 @@ use Rattle.ssq_board.specs.Follows.{Terms, State, Step, Leads, Goes, Shows, Show
 use Rattle.ssq_board.proofs.Following.{list_follows}
 use Rattle.ssq_board.proofs.Opening.{shows_first}
 use Rattle.ssq_board.proofs.Sounds.{first_sound, step_sound}
+use Rattle.ssq_board.proofs.Leasts.{some_is as same_cause}
 use Rattle.ssq_promise.specs.Run.{Begins}
 use Rattle.ssq_promise.proofs.Joining.{begins_shelf, shown_first}
 use Rattle.ssq_promise.proofs.Leaving.{sound_by}
+use Rattle.ssq_desk.proofs.Settling.{disk_no_log}
 use Rattle.ssq_drive.specs.Rounds.{IsOfOpen}
-use Rattle.ssq_drive.proofs.Cutting.{none_some, not_of_epoch, same_cause}
+use Rattle.ssq_drive.proofs.Cutting.{none_some, not_of_epoch}
 use Rattle.ssq_drive.proofs.Planned.{or_first}
 
 -- the commit of this epoch may have no content
@@ -51,13 +53,9 @@ sound_none job d had sound x may = elim (sound.holds.are_true (name.Commit d.com
 delta_none : (had : Had) (p v k : ℕ) (bytes : List ℕ) → HasNone had k → HasNone (added (name.Delta p v) bytes had) k
 delta_none had p v k bytes none x may = elim (added_cases (name.Delta p v) (name.Commit k) bytes x had may) [ inl old ↦ none x old | inr new ↦ absurd (commit_delta k p v new.0) ]
 
--- no cause that a call brings is of the open epoch
-log_disk : cause.DiskFault ≡ cause.LogFault → ⊥
-log_disk is = cc
-
 disk_not_open : (f : Cause) → Some cause.DiskFault ≡ Some f → IsOfOpen f → ⊥
 disk_not_open f is (inl own) = true≢false (sym own ∙ ap is_of_epoch (sym (same_cause cause.DiskFault f is)))
-disk_not_open f is (inr log) = log_disk (same_cause cause.DiskFault f is ∙ log)
+disk_not_open f is (inr log) = disk_no_log (same_cause cause.DiskFault f is ∙ log)
 
 call_not_open : (r : Scope) (c : Core) (f : Cause) → HasCause r c f → IsOfOpen f → ⊥
 call_not_open r c f has (inl own) = not_of_epoch r c f has own

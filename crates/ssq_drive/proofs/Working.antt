@@ -26,6 +26,8 @@ use Rattle.ssq_desk.specs.Published.{IsOut, brings}
 use Rattle.ssq_desk.specs.Results.{IsReturned}
 use Rattle.ssq_drive.proofs.Causes.{report_stops}
 use Rattle.ssq_drive.proofs.Turning.{Goes, goes_turn, rests, runs_rest, none_left, risen_stops}
+use Rattle.ssq_drive.proofs.Cutting.{none_some as no_cause}
+use Rattle.ssq_drive.proofs.Goods.{still as here}
 
 version_here : (r : Scope) (c : Core) (t : TaskId) → ((k : Kind) → list_any is_away (tasks_of k c) ≡ false) → (k : Kind) → list_any is_away (tasks_of k (after r (after r c (entry.Claim t)) (entry.Version t))) ≡ false
 version_here r c t h = front_here (moved (moved c t place.Away) t (place.Back None)) (after r (after r c (entry.Claim t)) (entry.Version t)) refl refl refl (back_all c t None h)
@@ -107,16 +109,9 @@ module _ {D O : Type 0} where
       is ∙ ap (λ (m : Shown D O). did m new.disk es) claimed
       ∙ (λ i. record { opening = old.opening; opened = old.opened; scope = old.scope; disk = new.disk; core = after_all old.scope old.core (entry.Claim t ∷ es); history = more i })
 
-  -- the disk is as it was
-  here : (old new : Shown D O) (es : List Entry) → new ≡ did old old.disk es → new ≡ did old new.disk es
-  here old new es is = is ∙ ap (λ (d : D). did old d es) (sym (ap (λ s. s.disk) is))
-
 -- the cause of a reduce task, where it told one
 abbrev pub IsOfReduce : Option Cause → Type 0
 IsOfReduce f = IfSome f IsReducedCause
-
-no_cause : (g : Cause) → None ≡ Some g → ⊥
-no_cause g is = cc
 
 -- the desk accounts for it, where a failure of the disk was counted
 reduce_stops : (r : Scope) (n : Core) (before now : ℕ) (g : Cause) → IsReducedCause g → (g ≡ cause.DiskFault → Rises before now) → StopsFor no_file r n before now g

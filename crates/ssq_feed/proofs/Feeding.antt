@@ -28,6 +28,7 @@ use Rattle.ssq_meaning.specs.Meaning.{Line, Values, lines_between}
 use Rattle.ssq_meaning.specs.Parts.{Part}
 use Rattle.ssq_meaning.specs.Times.{later, greatest}
 use Rattle.ssq_meaning.specs.Feeding.{Handed, layout_at, read_at, handed, line_evaluated, line_read, line_handed, placed, fed_if, fed_at, time_of_row, time_if, time_at, fault_if, fault_at, first_of_all, or_else, fed_in, time_in, fault_in}
+use Rattle.ssq_meaning.proofs.Water.{later_none}
 use Rattle.ssq_feed.specs.declared.fault.FeedFault.{FeedFault}
 use Rattle.ssq_feed.specs.declared.fault.FeedFault.TheVariants.{BadLine, Overflow, LogFault, LogShort, NoMemory}
 use Rattle.ssq_feed.specs.declared.dealer.Origin.{Origin}
@@ -192,10 +193,6 @@ goes_on tells query epoch part from at to partitions time own more rows bytes ol
 
 none_left : (at to : ℕ) (lines : List Line) → to ≤ at → lines_between at to lines ≡ []
 none_left at to lines le = let e : to - at ≡ 0 = omega (arith, le) in rw e refl
-
-later_none : (t : Option ℤ) → later t None ≡ t
-later_none None = refl
-later_none (Some t) = refl
 
 -- the last line is read
 pub ended : (tells : Type 0) (query : Bound) (epoch : ℕ) (part : Part) (from at to partitions : ℕ) (time : Option ℤ) (buckets : List (List FedRow))

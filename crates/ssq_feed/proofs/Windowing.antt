@@ -14,6 +14,7 @@ use Rattle.ssq_window.specs.Window.{AreWindows, first_start, window_count}
 use Rattle.ssq_meaning.specs.Fit.{IsFit}
 use Rattle.ssq_meaning.specs.Group.{window_starts}
 use Rattle.ssq_meaning.specs.Windows.{IsWindow}
+use Rattle.ssq_meaning.proofs.FitRows.{stamps_have_64_bits}
 use Rattle.ssq_feed.specs.Keys.{starts_of}
 use Rattle.ssq_feed.specs.declared.starts.Starts.{Starts}
 
@@ -58,9 +59,6 @@ start_at starts nth below =
 
 -- ---- the numbers of a start have 64 bits
 
-stamp_fits : (t : ℤ) → IsStampTime t → FitsSigned w64 t
-stamp_fits t years = record { sfits = grind (arith, ints, years.0, years.1) }
-
 span_fits : (t : ℤ) → IsSpan t → FitsSigned w64 t
 span_fits t span = record { sfits = grind (arith, ints, span.0, span.1) }
 
@@ -80,7 +78,7 @@ start_numbers_fit starts nth below =
       first_fits = record { sfits = grind (arith, ints, zero.0, zero.1) };
       slide_fits = span_fits starts.slide starts.slide_is;
       distance_fits = fits_signed_mul w64 (pos nth) starts.slide 64 31_622_400_000_000 (omega (arith, below, starts.few)) (span_is_short starts.slide starts.slide_is) (omega arith);
-      start_fits = stamp_fits (starts.first +ℤ (pos nth *ℤ starts.slide)) (starts.years nth below);
+      start_fits = stamps_have_64_bits (starts.first +ℤ (pos nth *ℤ starts.slide)) (starts.years nth below);
     }
 
 -- the start as it is computed, in numbers of 64 bits

@@ -1,10 +1,9 @@
 -- Rows are read line by line, and counted.
-use Rattle.std.proofs.Common.{◌≡◌, ◌≤◌, ◌<◌, ◌^◌, ◌*◌, ◌≤ℤ◌, neg_ℤ, ℕ, suc, ◌+◌, ◌+ℤ◌, ℤ, pos, Bool, true, false, true≢false, ◌==◌, List, [], ◌∷◌, ◌++◌, length, get_or, to_z, of_z, refl, sym, ap, ap₂, subst, ◌∙◌, append_assoc, append-nil, arith}
+use Rattle.std.proofs.Common.{◌≡◌, ◌≤◌, ◌<◌, ◌^◌, ◌*◌, ◌≤ℤ◌, neg_ℤ, ℕ, ◌+◌, ◌+ℤ◌, ℤ, pos, Bool, true, false, ◌==◌, List, [], ◌∷◌, ◌++◌, length, get_or, to_z, of_z, refl, sym, ap, ap₂, subst, ◌∙◌, append_assoc, append-nil, arith}
 use Rattle.std.specs.Int.{w64, w128}
 use Rattle.std.specs.List.{All}
 use Rattle.std.specs.Prelude.{FitsSigned}
 use Rattle.std.proofs.lemmas.Int.{ints, to_z-of_z}
-use Rattle.std.proofs.lemmas.Bool.Decides.{nat_tests}
 use Rattle.std.proofs.lemmas.List.{length-append}
 use Rattle.std.proofs.lemmas.List.Elements.{All-head, All-nil, All-push, All-tail}
 use Rattle.std.proofs.lemmas.List.Sums.{fold-append}
@@ -13,7 +12,7 @@ use Rattle.ssq_value.specs.declared.value.Value.{Value}
 use Rattle.ssq_value.specs.declared.value.Value.TheVariants.{Null}
 use Rattle.ssq_json.specs.RowText.{heads_of, row_text}
 use Rattle.ssq_json.specs.Stored.{AreRows, AreStoredIn, line_of, lines_of}
-use Rattle.ssq_sink.proofs.Rereading.{lines-append}
+use Rattle.ssq_sink.proofs.Rereading.{lines-append, is_none, is_some_left}
 use Rattle.ssq_gen.specs.declared.counts.Counts.{Counts}
 use Rattle.ssq_gen.specs.Counts.{AreCountsOf, AreWithin, IsRows, IsWithin, number_in, sum_of}
 
@@ -57,16 +56,6 @@ one_read names kinds bytes left after row is stored so = record {
 -- what a reader of one line finds
 abbrev pub FindsLine : List (List ℕ) → List ColType → (left after : List ℕ) → List Value → Type 0
 FindsLine names kinds left after row = (one : List Value) (rest : List ℕ) → AreStoredIn kinds one → left ≡ line_of names one ++ rest → (row ≡ one) × (after ≡ rest)
-
-some_items : (n : ℕ) → (suc n == 0) ≡ false
-some_items n = grind (arith, nat_tests)
-
-is_none : {A : Type 0} (xs : List A) → (length xs == 0) ≡ true → xs ≡ []
-is_none [] empty = refl
-is_none (x ∷ xs) empty = absurd (true≢false (sym empty ∙ some_items (length xs)))
-
-is_some_left : {A : Type 0} (xs : List A) → (length xs == 0) ≡ false → xs ≡ [] → ⊥
-is_some_left xs some none = true≢false (sym (ap (λ l. length l == 0) none) ∙ some)
 
 -- one row more is counted
 pub one_counted : (names : List (List ℕ)) (kinds : List ColType) (rows : List (List Value)) (left after : List ℕ) (row : List Value) (old new : Counts) → (length left == 0) ≡ false → FindsLine names kinds left after row

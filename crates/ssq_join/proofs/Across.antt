@@ -3,30 +3,26 @@ use Rattle.std.proofs.Common.{◌≡◌, ◌++◌, ℕ, [], ◌∷◌, List, Boo
 use Rattle.std.specs.Prelude.{◌==◌, ◌&&◌, if◌then◌else◌, not}
 use Rattle.std.specs.Int.{w32, w64, to_be_bytes}
 use Rattle.std.specs.List.{AllByRecursion, list_any}
-use Rattle.std.proofs.lemmas.List.{length-map}
 use Rattle.std.proofs.lemmas.List.Elements.{All-weaker}
-use Rattle.ssq_value.specs.declared.value.Value.{Value}
 use Rattle.ssq_value.specs.Key.{IsSpelled, keys_of}
 use Rattle.ssq_version.specs.State.{all_with, begins_with}
 use Rattle.ssq_shape.specs.declared.bound.Bound.{Bound}
 use Rattle.ssq_shape.specs.declared.bound.Joining.{Joining}
-use Rattle.ssq_shape.specs.Evaluation.{cell_at, is_null}
+use Rattle.ssq_shape.specs.Evaluation.{is_null}
 use Rattle.ssq_meaning.specs.FedRows.{FedRow}
 use Rattle.ssq_meaning.specs.Fit.{IsFit}
 use Rattle.ssq_meaning.specs.Group.{is_same}
 use Rattle.ssq_meaning.specs.GroupLaws.{IsKeySpelled}
-use Rattle.ssq_meaning.specs.Join.{is_left, key_column, row_key, row_value, side_byte}
-use Rattle.ssq_meaning.specs.JoinLaws.{IsJoinRow, are_candidates}
+use Rattle.ssq_meaning.specs.Join.{is_left, row_key, row_value, side_byte}
+use Rattle.ssq_meaning.specs.JoinLaws.{are_candidates}
 use Rattle.ssq_meaning.proofs.Coding.{AreApart as KeysAreApart}
 use Rattle.ssq_meaning.proofs.FitRows.{spelled}
 use Rattle.ssq_meaning.proofs.Keys.{same_is}
+use Rattle.ssq_meaning.proofs.Placing.{key_lengths}
 use Rattle.ssq_join.specs.Meeting.{AreOthers, IsOther, entry_with}
 use Rattle.ssq_join.specs.Steps.{IsKept}
 use Rattle.ssq_join.specs.Telling.{candidates_of}
 use Rattle.ssq_join.proofs.Prefixes.{candidates_begin, key_begins, near_by}
-
-key_lengths : (joining : Joining) (row : FedRow) → IsJoinRow joining row → length row.key ≡ length joining.keys
-key_lengths joining row own = ap (λ (key : List Value). length key) own.key ∙ length-map joining.keys (λ pair. cell_at row.values (key_column (is_left row.stream) pair))
 
 pub spelled_key : (query : Bound) (joining : Joining) (row : FedRow) → IsKept query joining row → IsKeySpelled (length joining.keys) row.key
 spelled_key query joining row is = (All-weaker IsFit IsSpelled spelled row.key is.fit.key, key_lengths joining row is.own)

@@ -10,6 +10,7 @@ use Rattle.std.proofs.lemmas.List.Elements.{All-append, All-replicate, filter-ap
 use Rattle.std.proofs.lemmas.List.Sorted.{IsPermutation-cons, IsPermutation-middle, IsPermutation-refl, IsPermutation-sym, IsPermutation-trans}
 use Rattle.ssq_value.specs.declared.value.Value.TheVariants as value
 use Rattle.ssq_value.specs.Key.{keys_of}
+use Rattle.ssq_time.proofs.Steps.{some_same}
 use Rattle.ssq_version.specs.State.{State}
 use Rattle.ssq_shape.specs.declared.bound.Bound.{Bound}
 use Rattle.ssq_shape.specs.declared.bound.Joining.{Joining}
@@ -64,9 +65,6 @@ pub if_shown : (query : Bound) (joining : Joining) (met : FedRow → Bool) (row 
     → Tells found (with_alone query joining met row all)
 if_shown query joining met row all found is tells = subst (λ b. Tells found (if b then alone_of query row ∷ all else all)) (sym is) tells
 
-pub some_is : {A : Type 0} (x y : A) → Some x ≡ Some y → x ≡ y
-some_is x y same = cc
-
 pub both_fail : (a b : Bool) → b ≡ true → (a && not b) ≡ false
 both_fail true true is = refl
 both_fail false true is = refl
@@ -97,7 +95,7 @@ side_of_byte false = refl
 
 pub side_is : (row : FedRow) (key : List ℕ) (first : ℕ) → Some first ≡ slice_get key 0 → key ≡ row_key row → (first == 0) ≡ is_left row.stream
 side_is row key first is same =
-    ap (λ byte. byte == 0) (some_is first (side_byte (is_left row.stream)) (is ∙ ap (λ (bytes : List ℕ). slice_get bytes 0) same)) ∙ side_of_byte (is_left row.stream)
+    ap (λ byte. byte == 0) (some_same first (side_byte (is_left row.stream)) (is ∙ ap (λ (bytes : List ℕ). slice_get bytes 0) same)) ∙ side_of_byte (is_left row.stream)
 
 pub no_side : (row : FedRow) (key : List ℕ) → None ≡ slice_get key 0 → key ≡ row_key row → ⊥
 no_side row key is same =

@@ -19,6 +19,7 @@ use Rattle.ssq_meaning.specs.Times.{is_past}
 use Rattle.ssq_meaning.proofs.Coding.{AreApart as KeysAreApart}
 use Rattle.ssq_meaning.proofs.FitRows.{spelled}
 use Rattle.ssq_meaning.proofs.KeyPlaces.{stamp_at}
+use Rattle.ssq_meaning.proofs.Placing.{same_side}
 use Rattle.ssq_step.specs.Rows.{HasTime, HasTimeIf, IsKeptRow, IsTimed, end_of, width_of}
 use Rattle.ssq_join.specs.Steps.{IsKept}
 use Rattle.ssq_join.proofs.Alone.{kept_row}
@@ -49,12 +50,6 @@ past_fits (Some bound) around false (Some own) stamp w t fits is past =
 
 -- ---- the row that is kept so
 
-side_is : (one other : Bool) → side_byte one ≡ side_byte other → one ≡ other
-side_is true true same = refl
-side_is true false same = absurd cc
-side_is false true same = absurd cc
-side_is false false same = refl
-
 module _ (apart : KeysAreApart) (query : Bound) (joining : Joining) (bounded : IsBounded joining) (now : Option ℤ) (fits : IfSome now (FitsSigned w64)) (row : FedRow) (is : IsKept query joining row) where
   abbrev side : Bool
   side = is_left row.stream
@@ -69,7 +64,7 @@ module _ (apart : KeysAreApart) (query : Bound) (joining : Joining) (bounded : I
   same_end : (met : Bool) (left : Bool) (values : Values) (flag : Bool) → IsKeptRow query left values flag (row_key row) (row_value met row) → end_of joining left values ≡ end_of joining side row.values
   same_end met left values flag own =
       let first : side_byte side ≡ side_byte left = cc_head (row_key row) (side_byte left) own.bytes.rest own.bytes.side in
-      let same : side ≡ left = side_is side left first in
+      let same : side ≡ left = same_side side left first in
       let long : length row.values ≡ length values = is.many ∙ ap (width_of query) same ∙ sym own.many in
       let one : row.values ≡ values = (apart row.values values (met_byte met ∷ []) (met_byte flag ∷ []) long (All-weaker IsFit IsSpelled spelled row.values is.fit.values) (All-weaker IsFit IsSpelled spelled values own.fit) own.bytes.spelled).0 in
       λ i. end_of joining (sym same i) (sym one i)

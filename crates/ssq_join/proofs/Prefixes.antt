@@ -17,11 +17,9 @@ use Rattle.ssq_meaning.specs.Meaning.{Values}
 use Rattle.ssq_meaning.proofs.Coding.{AreApart as KeysAreApart}
 use Rattle.ssq_meaning.proofs.Keys.{same_back, same_is, same_itself}
 use Rattle.ssq_meaning.proofs.Pairing.{or_false}
+use Rattle.ssq_version.proofs.Prefixes.{same_number}
 
 -- ---- beginnings
-
-same_number : (x : ℕ) → (x == x) ≡ true
-same_number x = grind (arith, nat_tests)
 
 pub begins_itself : (prefix rest : List ℕ) → begins_with prefix (prefix ++ rest) ≡ true
 begins_itself [] rest = refl

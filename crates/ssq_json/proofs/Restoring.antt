@@ -278,7 +278,7 @@ none_taken heads kinds text = record {
   each = λ names of row rest are is. (row, refl, are, is);
 }
 
-regroup : (a b c d : List ℕ) → (a ++ (b ++ c)) ++ d ≡ a ++ (b ++ (c ++ d))
+pub regroup : (a b c d : List ℕ) → (a ++ (b ++ c)) ++ d ≡ a ++ (b ++ (c ++ d))
 regroup a b c d = append_assoc a (b ++ c) d ∙ ap (λ l. a ++ l) (append_assoc b c d)
 
 members-next : (heads : List (List ℕ)) (n : ℕ) (head : List ℕ) → drop n heads ≡ head ∷ drop (n + 1) heads → (value : Value) (more : List Value) (tail : List ℕ) → members_text (drop n heads) (value ∷ more) ++ tail ≡ head ++ (value_text value ++ (members_text (drop (n + 1) heads) more ++ tail))

@@ -7,16 +7,16 @@ use Rattle.ssq_outside.specs.declared.name.Name.TheVariants as name
 use Rattle.ssq_outside.specs.Files.{same_name}
 use Rattle.ssq_outside.specs.History.{History}
 use Rattle.ssq_upkeep.specs.Upkeep.{is_among}
+use Rattle.ssq_upkeep.proofs.Among.{among_both}
 use Rattle.ssq_board.specs.declared.front.Cause.{Cause}
 use Rattle.ssq_board.specs.declared.front.Front.{Front}
 use Rattle.ssq_board.specs.declared.front.Entry.{Entry}
 use Rattle.ssq_board.specs.declared.front.Entry.TheVariants as entry
-use Rattle.ssq_board.specs.Core.{Scope, Core, HasCause, May, need, stop_need, after, is_stopped, or_stop, with_front, stopped_front}
+use Rattle.ssq_board.specs.Core.{Scope, Core, HasCause, May, need, stop_need, after, is_stopped, with_front, stopped_front}
 use Rattle.ssq_board.specs.Rounds.{spends}
 use Rattle.ssq_board.specs.Shelf.{Shelf, MayKeep, last_before, last_of, there_in, with_name, without, unclaimed, untidy, shelf_by, snapshot_on, version_on}
 use Rattle.ssq_board.specs.Shown.{first}
 use Rattle.ssq_board.specs.Follows.{Moves, IsRight}
-use Rattle.ssq_board.proofs.Keeping.{among_both}
 use Rattle.ssq_board.proofs.Needs.{need_falls}
 use Rattle.ssq_ledger.specs.Shown.{Opening, Shown, IsLedger, cuts_after, shelf_after, shelf_of}
 use Rattle.ssq_ledger.specs.Names.{IsShelved, MakesRoom, MakesSettled}
@@ -113,11 +113,6 @@ stops_need c o less = omega (arith, less)
 
 pub stop_most : (o : Option Cause) (f : Cause) → stop_need (Some f) ≤ stop_need o
 stop_most o f = omega arith
-
-pub or_stop_most : (o p : Option Cause) → stop_need (or_stop o p) ≤ stop_need o
-or_stop_most None None = omega arith
-or_stop_most None (Some f) = omega arith
-or_stop_most (Some g) p = omega arith
 
 -- more room
 pub made_room : (k : Shelf) (n more count capacity now : ℕ) (old new : Names) (result : Option (Unit {0})) → IsShelved k n count capacity old → MakesRoom more old new result → capacity ≤ now → IsShelved k n count now new

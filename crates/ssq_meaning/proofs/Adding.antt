@@ -124,7 +124,7 @@ plain_is : (query : Bound) → query.shape ≡ Plain → operator_of query ≡ p
 unfolding operator_of
 plain_is query is = ap (λ shape. operator_for shape query) is
 
-filter_true : (rows : List FedRow) → filter (λ row. true) rows ≡ rows
+pub filter_true : (rows : List FedRow) → filter (λ row. true) rows ≡ rows
 filter_true [] = refl
 filter_true (row ∷ rows) = ap (λ rest. row ∷ rest) (filter_true rows)
 

@@ -50,7 +50,7 @@ any_by key (other ∷ keys) b is = by (is_same key other) b (any_by key keys) is
     by true false rest is = absurd (omega (arith, is))
     by false c rest is = rest c is
 
-found_is : {X : Type 0} (q : List ℕ) (es : List (List ℕ × X)) → lookup (is_at (by_bytes q)) es ≡ find by_bytes q es
+pub found_is : {X : Type 0} (q : List ℕ) (es : List (List ℕ × X)) → lookup (is_at (by_bytes q)) es ≡ find by_bytes q es
 found_is q [] = refl
 found_is q (e ∷ es) = ap (λ o. cond (is_eq (by_bytes q e.0)) (Some e.1) o) (found_is q es)
 
@@ -140,7 +140,7 @@ repeats_found apart query columns rows now key spelled all =
 
 -- ---- each key that is kept is a row's
 
-first_true : (a b : Bool) → (a && b) ≡ true → a ≡ true
+pub first_true : (a b : Bool) → (a && b) ≡ true → a ≡ true
 first_true true b is = refl
 first_true false b is = absurd cc
 

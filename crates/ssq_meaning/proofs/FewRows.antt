@@ -80,7 +80,7 @@ module _ {A B : Type 0} (f : A → List B) (each : (a : A) → length (f a) ≤ 
   few_flat [] = omega arith
   few_flat (x ∷ xs) = omega (arith, length-append (f x) (flat_map f xs), each x, few_flat xs)
 
-passing_few : {A : Type 0} (p : A → Bool) (xs : List A) → length (filter p xs) ≤ length xs
+pub passing_few : {A : Type 0} (p : A → Bool) (xs : List A) → length (filter p xs) ≤ length xs
 passing_few p xs = omega (arith, length-filter p xs, count_by-le-length p xs)
 
 -- ---- what is fed

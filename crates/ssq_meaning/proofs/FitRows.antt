@@ -30,6 +30,7 @@ use Rattle.ssq_shape.specs.Evaluation.{cell_at, evaluated, time_in}
 use Rattle.ssq_shape.specs.Fit.{IsFit}
 use Rattle.ssq_shape.specs.Plain.{projected}
 use Rattle.ssq_shape.specs.Windows.{HasWindow, HasWindowsBy, HasWindows}
+use Rattle.ssq_json.proofs.Fitting.{stamp_from_line}
 use Rattle.ssq_meaning.specs.FedRows.{FedRow}
 use Rattle.ssq_meaning.specs.Cut.{Cuts}
 use Rattle.ssq_meaning.specs.Dedup.{distinguished, key_in}
@@ -44,7 +45,7 @@ use Rattle.ssq_meaning.proofs.Handing.{Gives, IsGiven, all_append, cons_ok, line
 
 -- ---- values that fit have a spelling
 
-stamps_have_64_bits : (t : ℤ) → IsStampTime t → FitsSigned w64 t
+pub stamps_have_64_bits : (t : ℤ) → IsStampTime t → FitsSigned w64 t
 stamps_have_64_bits t years = record { sfits = grind (arith, ints, years.0, years.1) }
 
 pub spelled : (value : Value) → IsFit value → IsSpelled value
@@ -67,14 +68,11 @@ short (value.Truth truth) fit = tt
 abbrev IsRead : Value → Type 0
 IsRead value = IsFit value × IfTime IsLineTime value
 
-stamp_of_line : (t : ℤ) → IsLineTime t → IsStampTime t
-stamp_of_line t years = (omega (arith, ints, years.0), omega (arith, ints, years.1))
-
 value_read : (value : Value) → IfInt (FitsSigned w64) value → IfTime IsLineTime value → IfText IsLineText value → IsRead value
 value_read value.Null number time text = (tt, tt)
 value_read (value.Int n) number time text = (number, tt)
 value_read (value.Text t) number time text = (text, tt)
-value_read (value.Time t) number time text = (stamp_of_line t time, time)
+value_read (value.Time t) number time text = (stamp_from_line t time, time)
 value_read (value.Truth b) number time text = (tt, tt)
 
 row_read : (row : Values) → AllByRecursion (IfInt (FitsSigned w64)) row → AllByRecursion (IfTime IsLineTime) row → AllByRecursion (IfText IsLineText) row → AllByRecursion IsRead row

@@ -87,7 +87,7 @@ later_bytes : List ℕ → List ℕ
 later_bytes [] = []
 later_bytes (x ∷ xs) = xs
 
-same_side : (a b : Bool) → side_byte a ≡ side_byte b → a ≡ b
+pub same_side : (a b : Bool) → side_byte a ≡ side_byte b → a ≡ b
 same_side true true is = refl
 same_side true false is = absurd (omega (arith, is))
 same_side false true is = absurd (omega (arith, is))
@@ -264,7 +264,7 @@ module _ (query : Bound) (joining : Joining) (is : query.shape ≡ Join joining)
 
 -- ---- what is kept
 
-key_lengths : (joining : Joining) (row : FedRow) → IsJoinRow joining row → length row.key ≡ length joining.keys
+pub key_lengths : (joining : Joining) (row : FedRow) → IsJoinRow joining row → length row.key ≡ length joining.keys
 key_lengths joining row own = ap (λ (key : List Value). length key) own.key ∙ length-map joining.keys (λ pair. cell_at row.values (key_column (is_left row.stream) pair))
 
 module _ (keys_apart : KeysAreApart) (rows_fit : RowsFit) (stays : StaysFit) (held : AreHeld) where

@@ -98,7 +98,7 @@ quiet_between query stream (part ∷ parts) (at ∷ cut) =
     let rest = quiet_between query stream parts cut in
     λ i. later (here i) (rest i)
 
-later_none : (t : Option ℤ) → later t None ≡ t
+pub later_none : (t : Option ℤ) → later t None ≡ t
 later_none None = refl
 later_none (Some t) = refl
 

@@ -1,6 +1,6 @@
 -- What the first name that passes a test says of the others.
 use Rattle.std.proofs.Common.{◌≡◌, ◌⊎◌, ◌<◌, ◌≤◌, ◌∙◌, [], ◌∷◌, ℕ, zero, suc, Bool, true, false, cond, List, Option, Some, None, length, get_or, refl, sym, ap, subst, inl, inr, arith}
-use Rattle.std.specs.Prelude.{Contains, IfNone, IfSome, IsTrue}
+use Rattle.std.specs.Prelude.{Contains, IfNone, IsTrue}
 use Rattle.std.specs.List.{find}
 use Rattle.std.proofs.lemmas.Bool.{cases_lt}
 use Rattle.ssq_outside.specs.declared.name.Name.{Name}
@@ -63,10 +63,6 @@ found_before p xs x y order e has passes = let first = found p xs x e in by_plac
     by_place first (inr no_earlier) (inr no_later) =
         let same : has.0 ≡ first.at = omega (arith, no_earlier, no_later) in
         inl (sym has.2 ∙ ap (λ k. get_or xs k y) same ∙ first.is y)
-
--- what holds of what is there, and where nothing is
-pub of_some : {X : Type 0} (P : X → Type 0) (found : Option X) (x : X) → found ≡ Some x → IfSome found P → P x
-of_some P found x is holds = subst (λ found. IfSome found P) is holds
 
 pub of_none : {X : Type 0} (P : Type 0) (found : Option X) → found ≡ None → IfNone found P → P
 of_none P found is holds = subst (λ found. IfNone found P) is holds

@@ -11,6 +11,7 @@ use Rattle.ssq_plans.specs.declared.plan.Plan.{Plan}
 use Rattle.ssq_plans.specs.declared.seen.SeenBy.{SeenBy}
 use Rattle.ssq_core.specs.Settled.{IsSettledAs, IsEither}
 use Rattle.ssq_core.proofs.Settling.{stays}
+use Rattle.ssq_core.proofs.Moves.{here as same_images}
 use Rattle.ssq_open.specs.declared.fault.OpenFault.{OpenFault}
 use Rattle.ssq_open.specs.declared.fault.OpenFault.TheVariants.{OtherQuery, OtherPartitions, OtherParts, LogShort, Damaged, DiskFault, NoMemory}
 use Rattle.ssq_open.specs.declared.wanted.Opened.{Opened}
@@ -199,10 +200,6 @@ synced_begun s h0 h1 h2 h3 step same settled empty later =
 -- nothing was done
 pub not_begun : (s : Sought) (files : Files) → IsRefused s files files NoMemory
 not_begun s files = unchanged refl tt (λ empty. tt)
-
-same_images : (P : Files → Type 0) (h : History) → ((image : Files) → IsImage (had_now h) image → P image) → LeavesOnly h h P
-same_images P h each =
-    let now : LeavesNow h P = record { each = each } in (begins P P P h now (λ f p. p) (each (files_now h) (files_are_image (had_now h)))).since
 
 pub nothing_new : (s : Sought) (h : History) → LeavesOnly h h (IsImageOpening s (had_now h))
 nothing_new s h = same_images (IsImageOpening s (had_now h)) h (λ image is. inl is)

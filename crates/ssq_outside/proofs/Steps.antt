@@ -12,7 +12,7 @@ pub last_or-push : (c d : Content) (cs : List Content) → last_or c (cs ++ d �
 last_or-push c d [] = refl
 last_or-push c d (e ∷ cs) = last_or-push e d cs
 
-last_among : (c : Content) (cs : List Content) → (last_or c cs ≡ c) ⊎ Contains cs (last_or c cs)
+pub last_among : (c : Content) (cs : List Content) → (last_or c cs ≡ c) ⊎ Contains cs (last_or c cs)
 last_among c [] = inl refl
 last_among c (d ∷ cs) =
     let first : Contains (d ∷ cs) d = (0, omega arith, refl) in

@@ -1,11 +1,10 @@
 -- No two records of a kind have one text.
-use Rattle.std.proofs.Common.{◌≡◌, ◌≢◌, ◌<◌, ◌+◌, ◌∙◌, ◌^◌, ◌==◌, ◌++◌, ◌∷◌, [], ℕ, ℤ, Bool, true, false, List, Option, Some, None, codes, decimal, length, take, get_or, refl, sym, ap, arith, append_assoc}
+use Rattle.std.proofs.Common.{◌≡◌, ◌≢◌, ◌<◌, ◌+◌, ◌∙◌, ◌^◌, ◌==◌, ◌++◌, ◌∷◌, [], ℕ, ℤ, Bool, true, false, List, Option, Some, None, codes, decimal, length, get_or, refl, sym, ap, arith, append_assoc}
 use Rattle.std.specs.Prelude.{All}
 use Rattle.std.specs.Option.{ForSome}
 use Rattle.std.proofs.lemmas.List.{append_cancel_left}
 use Rattle.std.proofs.lemmas.List.Elements.{All-head, All-tail}
 use Rattle.std.proofs.lemmas.Bool.{eqb-true, eqb-false}
-use Rattle.std.proofs.Math.Seq.{take-append_seam}
 use Rattle.ssq_field.proofs.Digits.{decimals_apart}
 use Rattle.ssq_time.specs.Time.{stamp_text, stamp_of, IsStampTime}
 use Rattle.ssq_time.proofs.Readback.{stamp_of-stamp_text}
@@ -16,12 +15,7 @@ use Rattle.ssq_plans.specs.Records.{lines, time_or_none, parts_line, part_line, 
 use Rattle.ssq_plans.proofs.Listing.{IsBehind, line_is_stamp}
 use Rattle.ssq_plans.proofs.Spelled.{part_split, part_is, no_part, seen_split, seen_is, no_seen, commit_split, commit_is, plan_split, plan_is, parts_split, meta_split, meta_is, no_parts}
 use Rattle.ssq_plans.proofs.Times.{with_z, without_z, no_stamp}
-
--- two texts with fronts of one length
-fronts : (a b x y : List ℕ) → length a ≡ length b → a ++ x ≡ b ++ y → (a ≡ b) × (x ≡ y)
-fronts a b x y same e =
-    let front : a ≡ b = sym (take-append_seam a x) ∙ ap (take (length a)) e ∙ ap (λ n. take n (b ++ y)) same ∙ take-append_seam b y in
-    (front, append_cancel_left a x y (e ∙ ap (λ c. c ++ y) (sym front)))
+use Rattle.ssq_value.proofs.Fronts.{same_fronts}
 
 stamp_same : (t u : ℤ) → IsStampTime t → IsStampTime u → stamp_text t ≡ stamp_text u → t ≡ u
 stamp_same t u of_t of_u e = let some : Some t ≡ Some u = sym (stamp_of-stamp_text t of_t) ∙ ap stamp_of e ∙ stamp_of-stamp_text u of_u in cc
@@ -36,7 +30,7 @@ stamps_by t u x y false z e =
 
 stamps : (t u : ℤ) (x y : List ℕ) → IsStampTime t → IsStampTime u → stamp_text t ++ x ≡ stamp_text u ++ y → (t ≡ u) × (x ≡ y)
 stamps t u x y of_t of_u e =
-    let both = fronts (stamp_text t) (stamp_text u) x y (stamps_by t u x y (get_or (stamp_text t ++ x) 19 0 == 90) refl e) e in
+    let both = same_fronts (stamp_text t) (stamp_text u) x y (stamps_by t u x y (get_or (stamp_text t ++ x) 19 0 == 90) refl e) e in
     (stamp_same t u of_t of_u both.0, both.1)
 
 -- times, or `none`
@@ -117,7 +111,7 @@ metas_apart m n of_m of_n e =
     let partitions = decimals_apart m.partitions n.partitions _ _ (omega (arith, of_m.0.1)) (omega (arith, of_n.0.1)) refl refl all in
     let parts = lists IsCount parts_line 0 m.parts n.parts _ _ counts_apart (λ at count behind. no_parts at count _ behind) (λ at count behind. no_parts at count _ behind) of_m.0.2 of_n.0.2 (append_cancel_left (codes "\n") _ _ partitions.1) in
     let count = decimals_apart (length m.query) (length n.query) _ _ of_m.2 of_n.2 refl refl (append_cancel_left (codes "query ") _ _ parts.1) in
-    let query = fronts m.query n.query (codes "\nend\n") (codes "\nend\n") count.0 (append_cancel_left (codes "\n") _ _ count.1) in
+    let query = same_fronts m.query n.query (codes "\nend\n") (codes "\nend\n") count.0 (append_cancel_left (codes "\n") _ _ count.1) in
     meta_is n m.partitions m.parts m.query partitions.0 parts.0 query.0
 
 pub records_apart : AreRecordsApart

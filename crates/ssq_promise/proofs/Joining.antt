@@ -1,8 +1,8 @@
 -- Rounds as runs, and runs joined.
-use Rattle.std.proofs.Common.{◌≡◌, ◌++◌, ◌∷◌, [], ℕ, Bool, List, Option, Some, None, refl, sym, ap, ◌∙◌, subst, arith}
+use Rattle.std.proofs.Common.{◌≡◌, ◌++◌, ◌∷◌, [], ℕ, Bool, List, Option, Some, None, refl, sym, ap, ◌∙◌, subst}
 use Rattle.ssq_outside.specs.declared.name.Name.TheVariants as name
-use Rattle.ssq_outside.specs.Files.{Files, Had, files_of, settled_at}
-use Rattle.ssq_outside.specs.History.{History, had_now, files_now, Elapses}
+use Rattle.ssq_outside.specs.Files.{Files, settled_at}
+use Rattle.ssq_outside.specs.History.{History, had_now, files_now}
 use Rattle.ssq_core.specs.declared.event.Event.{Event}
 use Rattle.ssq_core.specs.declared.event.Event.TheVariants as event
 use Rattle.ssq_core.specs.Course.{Cuts, Job}
@@ -10,6 +10,7 @@ use Rattle.ssq_core.specs.Settled.{IsSettledAs}
 use Rattle.ssq_core.specs.Machine as machine
 use Rattle.ssq_core.specs.Machine.{Desk, running, opened, Allows, syncs}
 use Rattle.ssq_core.specs.Laws.{acknowledged}
+use Rattle.ssq_core.proofs.Settling.{settled_files}
 use Rattle.ssq_board.specs.declared.front.Entry.{Entry}
 use Rattle.ssq_board.specs.Core.{Scope, Core, events_all}
 use Rattle.ssq_board.specs.Shown.{Start, IsSound, first}
@@ -18,6 +19,7 @@ use Rattle.ssq_board.specs.Told.{acknowledged_of}
 use Rattle.ssq_board.proofs.Following.{list_follows}
 use Rattle.ssq_board.proofs.Opening.{shows_first, shelf_first}
 use Rattle.ssq_board.proofs.Sounds.{first_sound}
+use Rattle.ssq_board.proofs.Leading.{elapses_same}
 use Rattle.ssq_promise.specs.Run.{closed, WasRun, Begins}
 
 pub assoc : {A : Type 0} (a b c : List A) → (a ++ b) ++ c ≡ a ++ (b ++ c)
@@ -48,22 +50,16 @@ ack_end (event.OutFile e ∷ es) p more = ack_end es p more
 ack_end (event.Snapshot p' v ∷ es) p more = ack_end es p more
 ack_end (event.Drop q ∷ es) p more = ack_end es p more
 
-pub files_are : (disk : History) (files : Files) → IsSettledAs disk files → files_now disk ≡ files
-files_are disk files settled = ap files_of settled.is
-
 -- a disk that is settled is as a sync leaves it
 pub still_settled : (disk : History) (files : Files) → IsSettledAs disk files → had_now disk ≡ settled_at (files_now disk)
-still_settled disk files settled = settled.is ∙ ap settled_at (sym (files_are disk files settled))
-
-no_time : (disk : History) (P : Had → Type 0) → Elapses disk disk P
-no_time disk P = record { later = omega arith; kept = λ k h. refl; fresh = λ k after before. absurd (omega (arith, after, before)) }
+still_settled disk files settled = settled.is ∙ ap settled_at (sym (settled_files disk files settled))
 
 -- A desk may be opened on files that are settled: that takes no time.
 open_step : (tells : Type 0) (job : Job) (disk : History) (files : Files) (d : Desk) → IsSettledAs disk files → opened job files d
     → machine.Step tells job (closed disk) event.Open (record { disk = disk; desk = Some d; life = running })
 open_step tells job disk files d settled is =
-    let now : opened job (files_now disk) d = subst (λ (f : Files). opened job f d) (sym (files_are disk files settled)) is in
-    (syncs, Some d, (d, refl, refl, now.0.needed name.Meta refl, now, refl, refl), (λ t. (no_time disk (Allows syncs (had_now disk)), still_settled disk files settled, tt)), refl)
+    let now : opened job (files_now disk) d = subst (λ (f : Files). opened job f d) (sym (settled_files disk files settled)) is in
+    (syncs, Some d, (d, refl, refl, now.0.needed name.Meta refl, now, refl, refl), (λ t. (elapses_same disk (Allows syncs (had_now disk)), still_settled disk files settled, tt)), refl)
 
 first_runs : (r : Scope) (st : Start) (c : Core) → c ≡ first r st → c.front.stop ≡ None
 first_runs r st c is = ap (λ (x : Core). x.front.stop) is ∙ by st.is_planned

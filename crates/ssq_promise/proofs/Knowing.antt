@@ -12,6 +12,7 @@ use Rattle.ssq_outside.specs.Files.{Files, Content, Had, files_of, same_name}
 use Rattle.ssq_outside.specs.History.{History, had_now, files_now}
 use Rattle.ssq_outside.proofs.Steps.{files_are_image}
 use Rattle.ssq_upkeep.specs.Upkeep.{IsDue, MayGo, is_among, is_up_to}
+use Rattle.ssq_upkeep.proofs.Among.{among_both}
 use Rattle.ssq_core.specs.declared.event.Event.{Event}
 use Rattle.ssq_core.specs.declared.event.Event.TheVariants as event
 use Rattle.ssq_core.specs.Course.{Course, Cuts, Job, truth}
@@ -28,23 +29,19 @@ use Rattle.ssq_board.specs.Shown.{Start, IsSound}
 use Rattle.ssq_board.specs.Shelf.{Shelf, there_in, asked_in, last_of}
 use Rattle.ssq_board.specs.Follows.{Terms, State, Leads, Shows, ShowsShelf, shown}
 use Rattle.ssq_board.proofs.Following.{list_follows}
-use Rattle.ssq_board.proofs.Keeping.{among_both}
 use Rattle.ssq_board.proofs.Opening.{shows_first}
 use Rattle.ssq_board.proofs.Sounds.{first_sound}
+use Rattle.ssq_board.proofs.Upkeeping.{still_sure}
 use Rattle.ssq_promise.specs.Run.{Begins, KnowsState}
 use Rattle.ssq_promise.proofs.Joining.{shown_first, begins_shelf}
 use Rattle.ssq_promise.proofs.Leaving.{sound_by}
 
-false_true : {A : Type 0} → false ≡ true → A
+pub false_true : {A : Type 0} → false ≡ true → A
 false_true e = absurd (true≢false (sym e))
 
 if_more : (b x : Bool) → x ≡ true → (if b then true else x) ≡ true
 if_more true x is = refl
 if_more false x is = is
-
-if_both : (b x y : Bool) → (x ≡ true → y ≡ true) → (if b then false else x) ≡ true → (if b then false else y) ≡ true
-if_both true x y so is = false_true is
-if_both false x y so is = so is
 
 abbrev some_of : {A : Type 0} → (default : A) → Option A → A
 some_of default None = default
@@ -96,7 +93,7 @@ module _ (keeping : ℕ) where
   -- a delta was removed
   dropped_delta : (d : Desk) (p s v : ℕ) → d.sure (name.Snapshot p s) ≡ true → d.sure (name.Commit (s + 20)) ≡ true → v ≤ s → IsKnown d → IsKnown (without_file (name.Delta p v) d)
   dropped_delta d p s v sure acked most k = record {
-    sure = λ q is. if_both (same_name q (name.Delta p v)) (d.sure q) (d.there q) (k.sure q) is;
+    sure = λ q is. still_sure (same_name q (name.Delta p v)) (d.sure q) (d.there q) (k.sure q) is;
     deltas = λ o w keeps less. elim (k.deltas o w keeps less) [
       | inl there ↦ by o w there (o == p && w == v) refl
       | inr covered ↦ inr covered
@@ -114,7 +111,7 @@ module _ (keeping : ℕ) where
   -- a snapshot was removed
   dropped_snapshot : (d : Desk) (p s v : ℕ) → d.sure (name.Snapshot p s) ≡ true → d.sure (name.Commit (s + 20)) ≡ true → v < s → IsKnown d → IsKnown (without_file (name.Snapshot p v) d)
   dropped_snapshot d p s v sure acked below k = record {
-    sure = λ q is. if_both (same_name q (name.Snapshot p v)) (d.sure q) (d.there q) (k.sure q) is;
+    sure = λ q is. still_sure (same_name q (name.Snapshot p v)) (d.sure q) (d.there q) (k.sure q) is;
     deltas = λ o w keeps less. elim (k.deltas o w keeps less) [
       | inl there ↦ inl there
       | inr covered ↦ inr (by o w covered (o == p && covered.0 == v) refl)

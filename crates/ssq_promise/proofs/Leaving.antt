@@ -17,6 +17,7 @@ use Rattle.ssq_core.proofs.Images.{stands_by, plan_below, commit_below, agree_st
 use Rattle.ssq_core.proofs.Desks.{settled_first}
 use Rattle.ssq_core.proofs.Moves.{moves_on, open_sound, first_sound as starts_sound}
 use Rattle.ssq_core.proofs.Acked.{settled_stay, acknowledged_stay}
+use Rattle.ssq_core.proofs.Settling.{settled_files}
 use Rattle.ssq_board.specs.declared.front.Cause.{Cause}
 use Rattle.ssq_board.specs.declared.front.Entry.{Entry}
 use Rattle.ssq_board.specs.declared.front.Entry.TheVariants as entry
@@ -26,11 +27,11 @@ use Rattle.ssq_board.specs.Shown.{Start, IsSound}
 use Rattle.ssq_board.specs.Shelf.{Shelf, last_of, shelf_by, snapshot_on}
 use Rattle.ssq_board.specs.Follows.{Terms, State, Leads, Moves, Shows, ShowsShelf, shown, life_of}
 use Rattle.ssq_board.proofs.Following.{list_follows}
-use Rattle.ssq_board.proofs.Keeping.{sure_there}
+use Rattle.ssq_board.proofs.Keeping.{sure_there, or_stop_none}
 use Rattle.ssq_board.proofs.Opening.{shows_first}
 use Rattle.ssq_board.proofs.Sounds.{first_sound}
 use Rattle.ssq_promise.specs.Run.{closed, WasRun, Begins, IsLeft, IsKept}
-use Rattle.ssq_promise.proofs.Joining.{still_settled, files_are, shown_first, begins_shelf}
+use Rattle.ssq_promise.proofs.Joining.{still_settled, shown_first, begins_shelf}
 
 -- as long as a desk runs, names that it takes for settled are
 abbrev IsStill : State → Type 0
@@ -41,10 +42,6 @@ false_true e = absurd (true≢false (sym e))
 
 some_none : {A : Type 0} (f : Cause) → ◌≡◌ {A = Option Cause} (Some f) None → A
 some_none f e = absurd (let x = e in cc)
-
-first_none : (o p : Option Cause) → or_stop o p ≡ None → o ≡ None
-first_none None p e = refl
-first_none (Some f) p e = e
 
 stopped_none : {A : Type 0} (o : Option Cause) (f : Cause) → or_stop o (Some f) ≡ None → A
 stopped_none None f e = some_none f e
@@ -57,7 +54,7 @@ synced_still old new is = is ∙ ap settled_at (sym (ap files_of is))
 still_by : (job : Job) (r : Scope) (s : State) (e : Entry) (n : State) → IsStill s → May r s.core e → Moves job r s.core s.cuts e s.disk n.disk → n.core ≡ after r s.core e → n.shelf ≡ shelf_by s.core s.shelf e → IsStill n
 still_by job r s (entry.Plan e) n still may moves is shelf runs settled tidy = false_true (sym (ap (λ (c : Core). c.front.settled) is) ∙ settled)
 still_by job r s (entry.Version t) n still may moves is shelf runs settled tidy =
-    let running : is_stopped s.core.front.stop ≡ false = ap is_stopped (first_none s.core.front.stop (due s.core t None) (sym (ap (λ (c : Core). c.front.stop) is) ∙ runs)) in
+    let running : is_stopped s.core.front.stop ≡ false = ap is_stopped (or_stop_none s.core.front.stop (due s.core t None) (sym (ap (λ (c : Core). c.front.stop) is) ∙ runs)) in
     false_true (sym (ap (λ (c : Core). c.front.settled) is ∙ ap (λ (b : Bool). b && s.core.front.settled) running) ∙ settled)
 still_by job r s (entry.Missed t) n still may moves is shelf runs settled tidy = some_none cause.DiskFault (sym (ap (λ (c : Core). c.front.stop) is) ∙ runs)
 still_by job r s (entry.OutFile e) n still may moves is shelf runs settled tidy = false_true (sym (ap (λ (c : Core). c.front.settled) is) ∙ settled)
@@ -69,7 +66,7 @@ still_by job r s (entry.Claim t) n still may moves is shelf runs settled tidy =
     (still (sym (ap (λ (c : Core). c.front.stop) is) ∙ runs) (sym (ap (λ (c : Core). c.front.settled) is) ∙ settled) (sym (ap (λ (k : Shelf). k.tidy) shelf) ∙ tidy))
 still_by job r s (entry.Report t f) n still may moves is shelf runs settled tidy =
     subst (λ (h : History). had_now h ≡ settled_at (files_now h)) (sym moves)
-    (still (first_none s.core.front.stop (due s.core t f) (sym (ap (λ (c : Core). c.front.stop) is) ∙ runs)) (sym (ap (λ (c : Core). c.front.settled) is) ∙ settled) (sym (ap (λ (k : Shelf). k.tidy) shelf) ∙ tidy))
+    (still (or_stop_none s.core.front.stop (due s.core t f) (sym (ap (λ (c : Core). c.front.stop) is) ∙ runs)) (sym (ap (λ (c : Core). c.front.settled) is) ∙ settled) (sym (ap (λ (k : Shelf). k.tidy) shelf) ∙ tidy))
 still_by job r s (entry.Upkeep p v) n still may moves is shelf runs settled tidy =
     subst (λ (h : History). had_now h ≡ settled_at (files_now h)) (sym moves)
     (still (sym (ap (λ (c : Core). c.front.stop) is) ∙ runs) (sym (ap (λ (c : Core). c.front.settled) is) ∙ settled) (sym (ap (λ (k : Shelf). k.tidy) shelf) ∙ tidy))
@@ -177,7 +174,7 @@ run_is_kept tells t job start now files told causal settled stands run =
       stands = (moves_on tells job run.events (closed start) (closed now) t causal sound run.leads).stands;
       stays = λ q other there.
           let sure : IsSure (had_now start) q = subst (λ (h : Had). IsSure h q) (sym settled.is) (sure_settled files q there) in
-          subst (λ (f : Files). LeavesOnly start now (λ image. image q ≡ f q)) (files_are start files settled)
+          subst (λ (f : Files). LeavesOnly start now (λ image. image q ≡ f q)) (settled_files start files settled)
           (settled_stay tells t job run.events (closed start) (closed now) q causal sound run.leads other sure);
       acknowledged_stay = λ before after at split begins ends e among.
           acknowledged_stay tells t job before after (closed start) at (closed now) e causal sound begins ends among;

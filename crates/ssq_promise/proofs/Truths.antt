@@ -1,11 +1,10 @@
 -- The files that a round leaves are those of its plans.
 use Rattle.std.proofs.Common.{◌≡◌, ◌&&◌, Option, None, ◌⊎◌, ◌<◌, ◌≤◌, ◌+◌, ◌||◌, [], ◌∷◌, ℕ, Bool, true, false, true≢false, List, Some, if◌then◌else◌, nat_lt, refl, sym, ap, ◌∙◌, subst, inl, inr, arith, le-ltb}
-use Rattle.std.specs.Prelude.{IsSome, is_some}
 use Rattle.std.proofs.lemmas.Bool.{cases_lt, ltb-true, ltb-false}
 use Rattle.ssq_outside.specs.declared.name.Name.{Name}
 use Rattle.ssq_outside.specs.declared.name.Name.TheVariants as name
 use Rattle.ssq_outside.specs.Files.{Content, Files, Had, MayBe, IsImage, IsSyncStep, added, removed, settled_at}
-use Rattle.ssq_outside.specs.History.{History, had_now, files_now, LeavesNow, Elapses}
+use Rattle.ssq_outside.specs.History.{History, had_now, files_now, LeavesNow}
 use Rattle.ssq_core.specs.Course.{Course, Ends, Cuts, Job, AgreeUpTo, AreSameUpTo, truth}
 use Rattle.ssq_core.specs.Standing.{is_allowed}
 use Rattle.ssq_core.specs.Settled.{IsSettledAs}
@@ -19,6 +18,8 @@ use Rattle.ssq_board.specs.declared.front.Entry.{Entry}
 use Rattle.ssq_board.specs.declared.front.Entry.TheVariants as entry
 use Rattle.ssq_outside.specs.declared.gate.TaskId.{TaskId}
 use Rattle.ssq_outside.specs.declared.gate.Kind.TheVariants as kind
+use Rattle.ssq_outside.proofs.Steps.{present_after}
+use Rattle.ssq_core.proofs.Files.{some_is_there, none_is_not}
 use Rattle.ssq_board.specs.declared.front.Cause.{Cause}
 use Rattle.ssq_board.specs.declared.front.Cause.TheVariants as cause
 use Rattle.ssq_board.specs.Core.{Scope, Core, HasCause, May, after, fails_apart, cuts_by, events_all, extended, is_behind, due, is_open, is_stopped, next_ends, or_stop}
@@ -39,16 +40,10 @@ HasTruth course n had = (q : Name) (c : Content) → MayBe (had q) c → (c ≡ 
 abbrev pub HasTried : Course → ℕ → Had → Type 0
 HasTried course n had = (q : Name) (c : Content) → MayBe (had q) c → (c ≡ None) ⊎ ((c ≡ Some (truth course q)) × ((is_allowed course.keeping n n q ≡ true) ⊎ (q ≡ name.Plan n)))
 
-some_is : (c : Content) (bytes : List ℕ) → c ≡ Some bytes → IsSome c
-some_is c bytes is = ap is_some is
-
-none_there : (c : Content) → c ≡ None → IsSome c → ⊥
-none_there c none there = true≢false (sym (sym (ap is_some none) ∙ there))
-
 image_true : (course : Course) (n : ℕ) (had : Had) → HasTruth course n had → (image : Files) → IsImage had image → AreTrueTo course n image
 image_true course n had has image is = record {
   are_true = λ q. elim (has q (image q) (is q)) [ inl none ↦ inl none | inr there ↦ inr there.0 ];
-  allowed = λ q there. elim (has q (image q) (is q)) [ inl none ↦ absurd (none_there (image q) none there) | inr so ↦ so.1 ];
+  allowed = λ q there. elim (has q (image q) (is q)) [ inl none ↦ absurd (none_is_not (image q) none there) | inr so ↦ so.1 ];
 }
 
 pub now_true : (course : Course) (n : ℕ) (h : History) → HasTruth course n (had_now h) → LeavesNow h (AreTrueTo course n)
@@ -57,7 +52,7 @@ now_true course n h has = record { each = image_true course n (had_now h) has }
 image_tried : (course : Course) (n : ℕ) (had : Had) → HasTried course n had → (image : Files) → IsImage had image → AreTriedTo course n image
 image_tried course n had has image is = record {
   are_true = λ q. elim (has q (image q) (is q)) [ inl none ↦ inl none | inr there ↦ inr there.0 ];
-  allowed = λ q there. elim (has q (image q) (is q)) [ inl none ↦ absurd (none_there (image q) none there) | inr so ↦ so.1 ];
+  allowed = λ q there. elim (has q (image q) (is q)) [ inl none ↦ absurd (none_is_not (image q) none there) | inr so ↦ so.1 ];
 }
 
 now_tried : (course : Course) (n : ℕ) (h : History) → HasTried course n (had_now h) → LeavesNow h (AreTriedTo course n)
@@ -67,7 +62,7 @@ now_tried course n h has = record { each = image_tried course n (had_now h) has 
 sound_true : (job : Job) (d : Desk) (had : Had) → IsSoundAt job d had → HasTruth (job.course d.cuts) d.planned had
 sound_true job d had sound q c may = elim (sound.holds.are_true q c may) [
   | inl none ↦ inl none
-  | inr is ↦ inr (is, allowed (sound.holds.allowed q c may (some_is c (truth (job.course d.cuts) q) is)))
+  | inr is ↦ inr (is, allowed (sound.holds.allowed q c may (some_is_there c (truth (job.course d.cuts) q) is)))
 ]
   where
     allowed : (is_allowed (job.course d.cuts).keeping sound.b d.committed q ≡ true) ⊎ ((q ≡ name.Plan sound.b) × (sound.b < d.planned)) → is_allowed (job.course d.cuts).keeping d.planned d.planned q ≡ true
@@ -87,7 +82,7 @@ opened_true job disk d settled is = now_true (job.course d.cuts) d.planned disk 
           | inl none ↦ inl (same ∙ none)
           | inr there ↦ inr (
             same ∙ there,
-            more_allowed (job.course d.cuts).keeping d.planned d.committed d.planned d.planned q (omega arith) is.0.reached.planned_first (is.0.allowed q (some_is (files_now disk q) (truth (job.course d.cuts) q) there)),
+            more_allowed (job.course d.cuts).keeping d.planned d.committed d.planned d.planned q (omega arith) is.0.reached.planned_first (is.0.allowed q (some_is_there (files_now disk q) (truth (job.course d.cuts) q) there)),
           )
         ]
 
@@ -158,13 +153,6 @@ data IsTrueSo (job : Job) (r : Scope) (disk : History) (cuts : Cuts) (n : ℕ) (
 abbrev IsTrueState : Job → Scope → State → Type 0
 IsTrueState job r s = IsTrueSo job r s.disk s.cuts s.core.front.planned s.core.ends s.core.front.due s.core.front.committed s.core.front.settled s.core.front.stop
 
--- what the disk had, or what a call allows
-elapsed_now : (old new : History) (P : Had → Type 0) → Elapses old new P → (had_now new ≡ had_now old) ⊎ P (had_now new)
-elapsed_now old new P step = elim (cases_lt old.moment new.moment) [
-  | inl later ↦ inr (step.fresh new.moment later (omega arith))
-  | inr early ↦ inl (step.kept new.moment early ∙ ap old.had_at (let l = step.later in let e : new.moment ≡ old.moment = omega (arith, l, early) in e))
-]
-
 both_true : {a b : Bool} → a ≡ true → b ≡ true → (a && b) ≡ true
 both_true p q = λ i. p i && q i
 
@@ -188,7 +176,7 @@ failed_first o later (inr is) = inr (ap (λ (x : Option Cause). or_stop x later)
 module _ (job : Job) (r : Scope) (next : Cuts → ℕ → Bool) (terms : Terms job r next) where
   -- one more true file was published, or not
   file_tried : (old new : History) (cuts : Cuts) (n : ℕ) (q : Name) → HasTruth (job.course cuts) n (had_now old) → is_allowed (job.course cuts).keeping n n q ≡ true → Tries (publishes q (truth (job.course cuts) q)) old new → HasTruth (job.course cuts) n (had_now new)
-  file_tried old new cuts n q has may step = elim (elapsed_now old new (λ (had : Had). had ≡ added q (truth (job.course cuts) q) (had_now old)) step) [
+  file_tried old new cuts n q has may step = elim (present_after old new (λ (had : Had). had ≡ added q (truth (job.course cuts) q) (had_now old)) step) [
     | inl same ↦ subst (HasTruth (job.course cuts) n) (sym same) has
     | inr is ↦ subst (HasTruth (job.course cuts) n) (sym is) (added_true (job.course cuts) n (had_now old) q has may)
   ]
@@ -199,7 +187,7 @@ module _ (job : Job) (r : Scope) (next : Cuts → ℕ → Bool) (terms : Terms j
   -- the next plan was published, or not
   plan_tried : (old new : History) (cuts : Cuts) (n : ℕ) (ends : Ends) → HasTruth (job.course cuts) n (had_now old)
       → Tries (publishes (name.Plan n) (truth (job.course (extended cuts n ends)) (name.Plan n))) old new → HasTried (job.course (extended cuts n ends)) n (had_now new)
-  plan_tried old new cuts n ends has step = elim (elapsed_now old new (λ (had : Had). had ≡ added (name.Plan n) (truth (job.course (extended cuts n ends)) (name.Plan n)) (had_now old)) step) [
+  plan_tried old new cuts n ends has step = elim (present_after old new (λ (had : Had). had ≡ added (name.Plan n) (truth (job.course (extended cuts n ends)) (name.Plan n)) (had_now old)) step) [
     | inl same ↦ subst (HasTried (job.course (extended cuts n ends)) n) (sym same) (tried_none (job.course (extended cuts n ends)) n (had_now old) (plan_true cuts n ends (had_now old) has))
     | inr is ↦ subst (HasTried (job.course (extended cuts n ends)) n) (sym is) (tried_one (job.course (extended cuts n ends)) n (had_now old) (plan_true cuts n ends (had_now old) has))
   ]
@@ -215,7 +203,7 @@ module _ (job : Job) (r : Scope) (next : Cuts → ℕ → Bool) (terms : Terms j
       so_far (file_tried old new cuts c.front.planned (name.Out e) has (lt_true e c.front.planned (let at = may.1 in let l = ltb-true c.front.committed c.front.planned may.2 in omega (arith, at, l))) step)
   tried_true old new c cuts f (entry.Commit e due) cause has may other step =
       so_far (file_tried old new cuts c.front.planned (name.Commit e) has (lt_true e c.front.planned (let at = may.1 in let l = ltb-true c.front.committed c.front.planned may.2 in omega (arith, at, l))) step)
-  tried_true old new c cuts f (entry.Sync clock) cause has may other step = so_far (elim (elapsed_now old new (IsSyncStep (had_now old)) step) [
+  tried_true old new c cuts f (entry.Sync clock) cause has may other step = so_far (elim (present_after old new (IsSyncStep (had_now old)) step) [
     | inl same ↦ subst (HasTruth (job.course cuts) c.front.planned) (sym same) has
     | inr sync ↦ λ q x is. has q x (sync.fewer q x is)
   ])
@@ -331,7 +319,7 @@ module _ (job : Job) (r : Scope) (next : Cuts → ℕ → Bool) (terms : Terms j
     step_true (entry.Drop q) s n d d' step cuts shows held sound cuts' shows' sound' is = so_far (running_true n d' cuts' shows' (ap (λ (c : Core). c.front.stop) step.core ∙ step.may) sound')
     step_true (entry.Undropped q) s n d d' step cuts shows held sound cuts' shows' sound' is =
         let was = running_true s d cuts shows step.may sound in
-        let has : HasTruth (job.course s.cuts) s.core.front.planned (had_now n.disk) = elim (elapsed_now s.disk n.disk (λ (had : Had). had ≡ removed q (had_now s.disk)) (step.moves t)) [
+        let has : HasTruth (job.course s.cuts) s.core.front.planned (had_now n.disk) = elim (present_after s.disk n.disk (λ (had : Had). had ≡ removed q (had_now s.disk)) (step.moves t)) [
           | inl same ↦ subst (HasTruth (job.course s.cuts) s.core.front.planned) (sym same) was
           | inr gone ↦ subst (HasTruth (job.course s.cuts) s.core.front.planned) (sym gone) (removed_true (job.course s.cuts) s.core.front.planned (had_now s.disk) q was)
         ] in

@@ -1,6 +1,6 @@
 -- How a run over generated input ends, by how its run does.
-use Rattle.std.proofs.Common.{◌≡◌, ◌<◌, ◌≤◌, ◌+◌, ◌∙◌, ◌⊎◌, ℕ, zero, suc, true, false, List, [], ◌∷◌, length, map, Option, Some, None, Result, Ok, Err, inl, inr, refl, sym, ap, ap₂, subst, arith, lt-ltb, ltb-true}
-use Rattle.std.specs.Prelude.{IsSome, slice_get, unwrap_or}
+use Rattle.std.proofs.Common.{◌≡◌, ◌<◌, ◌≤◌, ◌+◌, ◌∙◌, ◌⊎◌, ℕ, true, false, List, [], ◌∷◌, length, map, Option, Some, None, Result, Ok, Err, inl, inr, refl, sym, ap, ap₂, subst, arith, lt-ltb, ltb-true}
+use Rattle.std.specs.Prelude.{IsSome, unwrap_or}
 use Rattle.std.specs.List.{All, sum_by}
 use Rattle.std.proofs.lemmas.Bool.{cases_lt}
 use Rattle.std.proofs.lemmas.List.{length-map}
@@ -67,6 +67,7 @@ use Rattle.ssq_bind.specs.Typed.{IsTyped, QueriesAreTyped}
 use Rattle.ssq_gen.specs.Made.{made_held}
 use Rattle.ssq_tables.specs.Checkpoint.{CheckpointsHoldTables, rows_in_order}
 use Rattle.ssq_tables.specs.Shown.{CanShow as IsShowable}
+use Rattle.ssq_desk.proofs.Beginnings.{slice_below}
 use Rattle.ssq_run.specs.Queries.{IsSomeQuery}
 use Rattle.ssq_run.proofs.TableRows.{one_count, some_none}
 
@@ -161,7 +162,7 @@ none_of : {A : Type 0} (o : Option A) → (IsSome o → ⊥) → o ≡ None
 none_of None never = refl
 none_of (Some x) never = absurd (never refl)
 
-no_some : {A : Type 0} (o : Option A) (x : A) → o ≡ Some x → o ≡ None → ⊥
+pub no_some : {A : Type 0} (o : Option A) (x : A) → o ≡ Some x → o ≡ None → ⊥
 no_some o x is none = cc
 
 -- the sink files of n epochs are the rows that the query means, and no other is there
@@ -398,12 +399,6 @@ gen_ran s files streams counts end (outer inside) goes free (inr memory) = absur
     none_memory : None ≡ Some stop.NoMemory → ⊥
     none_memory e = cc
 
-get_below : {A : Type 0} (xs : List A) (e : ℕ) (x : A) → slice_get xs e ≡ Some x → e < length xs
-get_below [] zero x is = absurd cc
-get_below [] (suc e) x is = absurd cc
-get_below (y ∷ ys) zero x is = omega arith
-get_below (y ∷ ys) (suc e) x is = let less = get_below ys e x is in omega (arith, less)
-
 bytes_same : (o : Option (List ℕ)) (one other : List ℕ) → o ≡ Some one → o ≡ Some other → one ≡ other
 bytes_same o one other is also = ap (λ (f : Option (List ℕ)). unwrap_or f one) (sym is ∙ also)
 
@@ -420,7 +415,7 @@ gen_told bound number count files epochs text so sinks told =
       all = subst (λ (n : ℕ). AreAllEpochs s so.cuts n) same so.all;
       rows = λ e own is.
           let sink_is = sinks.each e own is in
-          let below = get_below epochs e own is in
+          let below = slice_below epochs e own is in
           subst (λ (bytes : List ℕ). AreRows (output_names bound) (output_kinds bound) bytes own)
           (bytes_same (files (name.Out e)) sink_is.bytes (rows_at s so.cuts e) sink_is.there (has.there e (omega (arith, below, same)))) sink_is.are;
       told = told;

@@ -27,6 +27,7 @@ use Rattle.ssq_run.proofs.Going.{ends_of}
 use Rattle.ssq_run.proofs.ShownKeys.{query_shows_keys}
 use Rattle.ssq_run.proofs.TableRows.{some_none}
 use Rattle.ssq_run.proofs.Tabling.{each_stream, showable}
+use Rattle.ssq_run.proofs.Generating.{no_some}
 
 -- status 0 is that of no stop
 no_stop : (stop : Option Stop) → status_in stop ≡ 0 → stop ≡ None
@@ -48,9 +49,6 @@ no_stop (Some NoMemory) is = absurd (omega (arith, is))
 no_stop (Some (FullParts stream)) is = absurd (omega (arith, is))
 no_stop (Some (FullLines stream part lines)) is = absurd (omega (arith, is))
 no_stop (Some FullEpochs) is = absurd (omega (arith, is))
-
-not_both : {A : Type 0} (o : Option A) (x : A) → o ≡ Some x → o ≡ None → ⊥
-not_both o x some none = cc
 
 module _ {L : Type 0} (told tells : Type 0) (lines : L → List Line) (available : L → ℕ) (answers : L → List ℕ) (faults : L → ℕ) (given : Given) (OutTells : Type 0) (went : Went) (stop : Option Stop)
     (taken : AcceptedAreTaken) (typed : QueriesAreTyped) (read : QueriesReadTheirStreams) (hold : CheckpointsHoldTables) (agree : TablesAgree) (apart : TextsAreOfOneRows) (can : CanShow given went.start)
@@ -88,12 +86,12 @@ module _ {L : Type 0} (told tells : Type 0) (lines : L → List Line) (available
 
   by_show : (shown before after : List ℕ) → after ≡ before ++ shown → ShowEnd can.setting.job.bound (files_now went.start) shown stop → stop ≡ None → Writes before after
   by_show shown before after is (nothing_there empty text done) none = absurd (some_none (files_now went.start name.Meta) (at.needed name.Meta refl) (empty name.Meta))
-  by_show shown before after is (denied why denial text stops) none = absurd (not_both stop _ stops none)
-  by_show shown before after is (spoilt here bad_at bad text stops) none = absurd (not_both stop _ stops none)
-  by_show shown before after is (unread here text stops) none = absurd (not_both stop _ stops none)
-  by_show shown before after is (starved text memory) none = absurd (not_both stop _ memory none)
+  by_show shown before after is (denied why denial text stops) none = absurd (no_some stop _ stops none)
+  by_show shown before after is (spoilt here bad_at bad text stops) none = absurd (no_some stop _ stops none)
+  by_show shown before after is (unread here text stops) none = absurd (no_some stop _ stops none)
+  by_show shown before after is (starved text memory) none = absurd (no_some stop _ memory none)
   by_show shown before after is (written here own done) none = by_table shown before after is own
-  by_show shown before after is (broke_off here text own front stops) none = absurd (not_both stop _ stops none)
+  by_show shown before after is (broke_off here text own front stops) none = absurd (no_some stop _ stops none)
 
   -- nothing is left to be written, and the table was
   by_obeyed : HasObeyed told tells lines available answers faults given.held given.known can.bound OutTells went stop (asks_show can.file) → stop ≡ None → (went.text ≡ []) × Writes went.old went.written
@@ -103,8 +101,8 @@ module _ {L : Type 0} (told tells : Type 0) (lines : L → List Line) (available
   by_end end none = by (ends_of told tells lines available answers faults given OutTells went stop (asks_show can.file) can.bound can.asks can.is taken end)
     where
       by : IsOutside stop ⊎ HasObeyed told tells lines available answers faults given.held given.known can.bound OutTells went stop (asks_show can.file) → (went.text ≡ []) × Writes went.old went.written
-      by (inl (inl fault)) = absurd (not_both stop _ fault none)
-      by (inl (inr memory)) = absurd (not_both stop _ memory none)
+      by (inl (inl fault)) = absurd (no_some stop _ fault none)
+      by (inl (inr memory)) = absurd (no_some stop _ memory none)
       by (inr so) = by_obeyed so none
 
   pub table_shown : (before now status : ℕ) (after : List ℕ) → ProgramEnd told tells lines available answers faults given OutTells went stop → Wrote stop went.text went.written after before now status → status ≡ 0 → Writes went.old after

@@ -1,7 +1,6 @@
 -- No run that can go on is refused, none that has room meets a limit, and none that is faultless finds a fault.
 use Rattle.std.proofs.Common.{◌≡◌, ◌<◌, ◌≤◌, ◌+◌, ◌*◌, ◌-◌, ◌∙◌, ◌&&◌, ℕ, zero, suc, ℤ, Bool, true, false, List, [], ◌∷◌, length, map, get_or, sum, All, Option, Some, None, Result, Ok, Err, inl, inr, refl, sym, ap, subst, arith, if◌then◌else◌}
-use Rattle.std.specs.Prelude.{slice_get, int_le, not}
-use Rattle.std.proofs.lemmas.Int.{ints}
+use Rattle.std.specs.Prelude.{slice_get, not}
 use Rattle.std.specs.List.{sum_by}
 use Rattle.std.proofs.lemmas.Bool.{cases_lt}
 use Rattle.std.proofs.lemmas.List.{length-map, length-append}
@@ -39,6 +38,9 @@ use Rattle.ssq_logs.specs.declared.fault.LengthFault.TheVariants as length_fault
 use Rattle.ssq_logs.specs.Asked.{AreAsked, most_lines}
 use Rattle.ssq_logs.specs.Parts.{counts_in, IsFew, IsFullAt}
 use Rattle.ssq_logs.specs.Opened.{parts_of, AreLogsOf}
+use Rattle.ssq_board.proofs.Upkeeping.{and_false}
+use Rattle.ssq_terms.proofs.Dealing.{never_above}
+use Rattle.ssq_terms.proofs.Covering.{sums_within}
 use Rattle.ssq_drive.specs.declared.round.Stopped.{Stopped}
 use Rattle.ssq_drive.specs.Rounds.{IsRoundStop, IsFaultAt, IsKeyAt, first_of}
 use Rattle.ssq_runner.specs.declared.ask.Ask.{Ask}
@@ -55,7 +57,7 @@ use Rattle.ssq_runner.proofs.Cutting.{cut_more}
 use Rattle.ssq_runner.proofs.Readying.{asked_count, asked_found, zero_at, begins_zero}
 use Rattle.ssq_runner.proofs.Promising.{asked_lines}
 use Rattle.ssq_runner.proofs.Sourcing.{each_log}
-use Rattle.ssq_runner.proofs.Growing.{FoundWithin, IsStep, HasGrown, rounds_step, grown, free, free_few, next_from, follow_from, sums_to}
+use Rattle.ssq_runner.proofs.Growing.{FoundWithin, IsStep, HasGrown, rounds_step, grown, free, free_few, next_from, follow_from}
 use Rattle.ssq_runner.proofs.Resuming.{known_found, resumed_jobs, resumed_stands, covered_known, IsResumed, resumed_is, goes_on_from, cut_count, follow, opened_from, committed_first}
 use Rattle.ssq_runner.proofs.Faultless.{IsFine, epoch_fine, keyless}
 
@@ -162,14 +164,6 @@ goes_on told tells lines available answers faults OutTells h t held known bound 
 -- the law of epochs without lines, as the crate of the meaning has it
 abbrev pub MarksStay : Type 0
 MarksStay = (query : Bound) (parts : List Part) (cuts : Offsets) (e : ℕ) → cuts (e + 1) ≡ cuts e → watermark query parts cuts (e + 1) ≡ watermark query parts cuts e
-
-never_above : (t : Option ℤ) → is_above t t ≡ false
-never_above None = refl
-never_above (Some t) = ap not (let least : int_le t t ≡ true = grind (arith, ints) in least)
-
-never_due : (b : Bool) → (b && false) ≡ false
-never_due true = refl
-never_due false = refl
 
 all_zero : (cut : List ℕ) (parts : List Part) → length cut ≡ length parts → ((i : ℕ) → get_or cut i 0 ≡ 0) → cut ≡ start_of parts
 all_zero [] [] count none = refl
@@ -278,7 +272,7 @@ module _ {L : Type 0} (told tells : Type 0) (lines : L → List Line) (available
       let x = setting_in tells lines available answers faults b in
       let cuts = cuts_in b ends.plans in
       let mark = still_law x.job.bound (parts_in x) (offsets cuts) e (ap offsets_of same) in
-      (dues_law x cuts).next e ∙ ap (λ (now : Option ℤ). closes x.job.bound && is_above now (watermark_at x cuts e)) mark ∙ ap (λ (above : Bool). closes x.job.bound && above) (never_above (watermark_at x cuts e)) ∙ never_due (closes x.job.bound)
+      (dues_law x cuts).next e ∙ ap (λ (now : Option ℤ). closes x.job.bound && is_above now (watermark_at x cuts e)) mark ∙ ap (λ (above : Bool). closes x.job.bound && above) (never_above (watermark_at x cuts e)) ∙ and_false (closes x.job.bound)
 
   pub grows : (e n : ℕ) → e ≡ length b.found.plans + n → e ≤ length ends.plans → HasGrown (cuts_in b ends.plans) dues (map (λ (own : List Line). length own) s.lines) (length b.found.plans) e
   unfolding most
@@ -391,11 +385,11 @@ module _ {L : Type 0} (told tells : Type 0) (lines : L → List Line) (available
       so = grows (length ends.plans) (length ends.has.more) (ap length ends.has.keeps ∙ length-append b.found.plans ends.has.more) (omega arith)
 
       all : sum (offsets_of (cuts_in b ends.plans (length ends.plans))) ≤ sum (map (λ (own : List Line). length own) s.lines)
-      all = sums_to (offsets_of (cuts_in b ends.plans (length ends.plans))) (map (λ (own : List Line). length own) s.lines) so.below
+      all = sums_within (offsets_of (cuts_in b ends.plans (length ends.plans))) (map (λ (own : List Line). length own) s.lines) so.below
 
       covered : sum (covered_in can.resumed) ≤ sum (offsets_of (cuts_in b ends.plans (length b.found.plans)))
       covered =
-          sums_to (covered_in can.resumed) (offsets_of (cuts_in b ends.plans (length b.found.plans))) (λ i.
+          sums_within (covered_in can.resumed) (offsets_of (cuts_in b ends.plans (length b.found.plans))) (λ i.
           let f = facts.covered_is i in let c = ap (λ (cut : List PartEnd). get_or (offsets_of cut) i 0) (cut_same (length b.found.plans) (omega arith)) in omega (arith, f, c))
 
       planned : planned_in can.resumed ≡ length b.found.plans

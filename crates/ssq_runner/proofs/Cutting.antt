@@ -1,5 +1,5 @@
 -- Plans that go on: what was said of the first of them stays said.
-use Rattle.std.proofs.Common.{◌≡◌, ◌<◌, ◌≤◌, ◌+◌, ◌++◌, ◌∙◌, ◌&&◌, ℕ, zero, suc, List, [], ◌∷◌, length, get_or, All, Option, inl, inr, refl, sym, ap, subst, arith, append_assoc, add-one, take, Result, Ok, Err, OnErr}
+use Rattle.std.proofs.Common.{◌≡◌, ◌<◌, ◌≤◌, ◌+◌, ◌++◌, ◌∙◌, ◌&&◌, ℕ, zero, suc, List, [], ◌∷◌, length, get_or, All, Option, inl, inr, refl, sym, ap, subst, arith, append_assoc, add-one, take, Result, Ok, Err}
 use Rattle.std.proofs.lemmas.List.{get_or_append_left, append-nil}
 use Rattle.std.proofs.Math.Seq.{take-suc}
 use Rattle.std.specs.Option.{ForSome}
@@ -116,11 +116,6 @@ unfolding told_text
 text_next old text told i default less is =
     ap (λ (l : List ℕ). l ++ told_line (get_or told i default)) is ∙ append_assoc old (told_text (take i told)) (told_line (get_or told i default))
     ∙ ap (λ (l : List ℕ). old ++ l) (ap (λ (l : List ℕ). told_text (take i told) ++ l) (sym (append-nil (told_line (get_or told i default)))) ∙ sym (text_then (take i told) (get_or told i default ∷ [])) ∙ ap told_text (sym (ap (λ (n : ℕ). take n told) (add-one i) ∙ take-suc told i default less)))
-
--- what is so where a call failed
-pub on_err : {T E P : Type 0} (r : Result T E) → P → OnErr r P
-on_err (Ok x) p = tt
-on_err (Err e) p = p
 
 -- what failed is not done
 pub never_ok : {T E : Type 0} {done : T} (why : E) → ◌≡◌ {A = Result T E} (Err why) (Ok done) → ⊥

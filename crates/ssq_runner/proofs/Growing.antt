@@ -1,6 +1,6 @@
 -- How far cuts go from epoch to epoch.
 use Rattle.std.proofs.Common.{◌≡◌, ◌<◌, ◌≤◌, ◌+◌, ◌∙◌, nat_lt, ℕ, zero, suc, Bool, true, false, List, [], ◌∷◌, length, get_or, sum, All, ◌*◌, Option, Some, None, true≢false, refl, sym, ap, subst, arith, inl, inr, if◌then◌else◌}
-use Rattle.std.specs.Prelude.{◌⊎◌, ◌||◌, ◌&&◌, ◌==◌, nat_le, IsTrue}
+use Rattle.std.specs.Prelude.{◌⊎◌, ◌||◌, ◌==◌, nat_le, IsTrue}
 use Rattle.std.specs.List.{list_all, zip}
 use Rattle.std.proofs.lemmas.Bool.{ltb-true, leb-true, and_parts, cases_lt, or_parts}
 use Rattle.std.proofs.lemmas.List.Sums.{sum_by-cons}
@@ -11,7 +11,10 @@ use Rattle.ssq_terms.specs.Laws.{due_at}
 use Rattle.ssq_core.specs.Course.{Ends as EndsOf, Cuts}
 use Rattle.ssq_board.specs.Core.{within, next_end, next_ends, is_behind}
 use Rattle.ssq_board.specs.Rounds.{HasCap}
+use Rattle.ssq_board.proofs.Falls.{within_less}
 use Rattle.ssq_open.specs.Epochs.{follows, keeps_up}
+use Rattle.ssq_terms.proofs.Covering.{sums_within}
+use Rattle.ssq_desk.proofs.Covers.{third}
 use Rattle.ssq_runner.specs.Rounds.{Round, AreNext, AreRounds, epochs_after}
 use Rattle.ssq_runner.proofs.Readying.{follows_count}
 
@@ -24,14 +27,6 @@ within_from (Some most) end found less = by (nat_lt (end + most) found)
   where
     by : (b : Bool) → end ≤ (if b then end + most else found)
     by true = omega arith
-    by false = omega (arith, less)
-
-within_more : (cap : Option ℕ) (end found : ℕ) → HasCap cap → end < found → end + 1 ≤ within cap end found
-within_more None end found has less = omega (arith, less)
-within_more (Some most) end found has less = by (nat_lt (end + most) found)
-  where
-    by : (b : Bool) → end + 1 ≤ (if b then end + most else found)
-    by true = omega (arith, has)
     by false = omega (arith, less)
 
 within_to : (cap : Option ℕ) (end found : ℕ) → within cap end found ≤ found
@@ -60,7 +55,7 @@ end_more : (cap : Option ℕ) (end found : ℕ) → HasCap cap → nat_lt end fo
 end_more cap end found has is = by (nat_lt end found) is
   where
     by : (b : Bool) → b ≡ true → end + 1 ≤ (if b then within cap end found else end)
-    by true same = within_more cap end found has (ltb-true end found is)
+    by true same = within_less cap end found has (ltb-true end found is)
     by false same = absurd (let f : false ≡ true = same in cc)
 
 -- ---- all ends
@@ -88,13 +83,6 @@ next_to cap (end ∷ ends) [] most one other (suc i) = next_to cap ends [] (λ k
 next_to cap (end ∷ ends) (n ∷ found) most one other zero = end_to cap end.end n (most 0) (one 0) (other 0 (omega arith))
 next_to cap (end ∷ ends) (n ∷ found) most one other (suc i) = next_to cap ends found (λ k. most (suc k)) (λ k. one (suc k)) (λ k less. other (suc k) (omega (arith, less))) i
 
--- numbers that are no greater, each, are not together
-pub sums_to : (xs ys : List ℕ) → ((i : ℕ) → get_or xs i 0 ≤ get_or ys i 0) → sum xs ≤ sum ys
-sums_to [] ys le = omega arith
-sums_to (x ∷ xs) [] le = (let e : sum (x ∷ xs) ≡ x + sum xs = sum_by-cons (λ n. n) x xs in let h : x ≤ 0 = le 0 in let r : sum xs ≤ 0 = sums_to xs [] (λ i. le (suc i)) in omega (arith, e, h, r))
-sums_to (x ∷ xs) (y ∷ ys) le =
-    (let e : sum (x ∷ xs) ≡ x + sum xs = sum_by-cons (λ n. n) x xs in let f : sum (y ∷ ys) ≡ y + sum ys = sum_by-cons (λ n. n) y ys in let h : x ≤ y = le 0 in let r = sums_to xs ys (λ i. le (suc i)) in omega (arith, e, f, h, r))
-
 -- where some part has more lines, the next cut covers more
 pub next_more : (cap : Option ℕ) (ends : EndsOf) (found : List ℕ) → HasCap cap → is_behind ends found ≡ true → sum (offsets_of ends) + 1 ≤ sum (offsets_of (next_ends cap ends found))
 next_more cap [] found has is = absurd (let f : false ≡ true = is in cc)
@@ -109,17 +97,10 @@ next_more cap (end ∷ ends) (n ∷ found) has is = by (nat_lt end.end n) refl i
 
     by : (b : Bool) → nat_lt end.end n ≡ b → (b || is_behind ends found) ≡ true → (is_behind ends found ≡ true → sum (offsets_of ends) + 1 ≤ sum (offsets_of (next_ends cap ends found)))
         → sum (offsets_of (end ∷ ends)) + 1 ≤ sum (offsets_of (next_ends cap (end ∷ ends) (n ∷ found)))
-    by true less behind rest = (let h = end_more cap end.end n has less in let r = sums_to (offsets_of ends) (offsets_of (next_ends cap ends found)) (next_from cap ends found) in omega (arith, old, new, h, r))
+    by true less behind rest = (let h = end_more cap end.end n has less in let r = sums_within (offsets_of ends) (offsets_of (next_ends cap ends found)) (next_from cap ends found) in omega (arith, old, new, h, r))
     by false less behind rest = (let h = end_from cap end.end n in let r = rest behind in omega (arith, old, new, h, r))
 
 -- ---- plans that follow
-
-third : (a b c : Bool) → (a && b && c) ≡ true → c ≡ true
-third a b true is = refl
-third true true false is = is
-third true false false is = is
-third false true false is = is
-third false false false is = is
 
 ends_keep : (before ends : List PartEnd) → length before ≡ length ends → list_all keeps_up (zip before ends) ≡ true → (i : ℕ) → get_or (offsets_of before) i 0 ≤ get_or (offsets_of ends) i 0
 ends_keep [] ends same is i = omega arith

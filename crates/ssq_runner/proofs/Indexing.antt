@@ -7,6 +7,7 @@ use Rattle.ssq_shape.specs.declared.bound.Bound.{Bound}
 use Rattle.ssq_step.specs.Indexing.{IsIndex, Timed}
 use Rattle.ssq_store.specs.declared.store.Store.{Store}
 use Rattle.ssq_drive.specs.Rounds.{HaveIndexes}
+use Rattle.ssq_time.proofs.Steps.{some_same}
 
 -- of each store its own
 abbrev pub AreIndexed : Bound → List Store → List (List Timed) → Type 0
@@ -34,9 +35,6 @@ indexed_count bound [] [] are = refl
 indexed_count bound [] (c ∷ closings) are = absurd are
 indexed_count bound (s ∷ stores) [] are = absurd are
 indexed_count bound (s ∷ stores) (c ∷ closings) are = ap suc (indexed_count bound stores closings are.1)
-
-some_same : {A : Type 0} (x y : A) → Some x ≡ Some y → x ≡ y
-some_same x y same = cc
 
 indexed_at : (bound : Bound) (stores : List Store) (closings : List (List Timed)) → AreIndexed bound stores closings → (p : ℕ) (store : Store) (closing : List Timed) → slice_get stores p ≡ Some store → slice_get closings p ≡ Some closing
     → IsIndex bound store.state closing

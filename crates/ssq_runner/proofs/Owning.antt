@@ -1,16 +1,15 @@
 -- What was opened is the job's own, where the checkpoint stands for the run's job or is empty.
-use Rattle.std.proofs.Common.{◌≡◌, ◌≤◌, ◌+◌, ◌∙◌, ◌⊎◌, ℕ, suc, List, [], ◌∷◌, length, map, sum, take, drop, unwrap_or, All, Option, Some, None, inl, inr, is_some, true, true≢false, refl, sym, ap, subst, arith}
-use Rattle.std.specs.Prelude.{Contains}
+use Rattle.std.proofs.Common.{◌≡◌, ◌≤◌, ◌+◌, ◌∙◌, ℕ, suc, List, [], ◌∷◌, length, map, sum, take, drop, unwrap_or, All, Option, Some, None, inl, inr, is_some, true, true≢false, refl, sym, ap, subst, arith}
 use Rattle.std.specs.Option.{ForSome}
 use Rattle.std.proofs.lemmas.List.{length-take, length-drop}
-use Rattle.std.proofs.lemmas.Bool.{cases_lt}
 use Rattle.std.proofs.lemmas.List.Elements.{All-nil, All-cons, All-head, All-tail}
 use Rattle.std.proofs.lemmas.List.Sums.{sum_by-cons}
 use Rattle.ssq_outside.specs.declared.name.Name.{Name}
 use Rattle.ssq_outside.specs.declared.name.Name.TheVariants as name
-use Rattle.ssq_outside.specs.Files.{Files, Had, Content, last_or, IsImage, IsEmpty, files_of}
+use Rattle.ssq_outside.specs.Files.{Files, Content, IsImage, IsEmpty, files_of}
 use Rattle.ssq_outside.specs.History.{History, had_now, files_now, LeavesNow, LeavesOnly}
 use Rattle.ssq_outside.specs.Logs.{Line}
+use Rattle.ssq_outside.proofs.Steps.{last_among}
 use Rattle.ssq_shape.specs.declared.bound.Bound.{Bound}
 use Rattle.ssq_plans.specs.declared.meta.Meta.{Meta}
 use Rattle.ssq_plans.specs.declared.part.PartEnd.{PartEnd}
@@ -19,6 +18,7 @@ use Rattle.ssq_core.specs.Standing.{Stands, StandsAt, IsThere}
 use Rattle.ssq_plans.specs.Records.{meta_text}
 use Rattle.ssq_core.specs.Settled.{IsSettledAs}
 use Rattle.ssq_core.specs.Sound.{StandsOrEmpty}
+use Rattle.ssq_core.proofs.Settling.{settled_files}
 use Rattle.ssq_course.specs.Setting.{Setting, meta_of, state_at, job_of}
 use Rattle.ssq_open.specs.declared.wanted.Lens.{Lens}
 use Rattle.ssq_open.specs.declared.wanted.Opened.{Opened}
@@ -42,16 +42,9 @@ use Rattle.ssq_runner.proofs.Listed.{none_listed, state_listed}
 
 -- ---- images
 
-last_may : (c : Content) (l : List Content) → (last_or c l ≡ c) ⊎ Contains l (last_or c l)
-last_may c [] = inl refl
-last_may c (next ∷ later) = elim (last_may next later) [
-  | inl same ↦ inr (0, omega arith, sym same)
-  | inr there ↦ inr (suc there.0, (let l = there.1 in omega (arith, l)), there.2)
-]
-
 -- the files as they are now are an image
 now_image : (h : History) → IsImage (had_now h) (files_now h)
-now_image h q = last_may (had_now h q).settled (had_now h q).since
+now_image h q = last_among (had_now h q).settled (had_now h q).since
 
 pub stands_now : (h : History) (P : Files → Type 0) → LeavesNow h P → P (files_now h)
 stands_now h P each = each.each (files_now h) (now_image h)
@@ -62,17 +55,6 @@ leaves_still P h each = record {
   later = omega arith;
   kept = λ k le. refl;
   each = λ k from to image is. each.each image (subst (λ (m : ℕ). IsImage (h.had_at m) image) (omega (arith, from, to)) is);
-}
-
--- one time after another
-pub leaves_then : (P : Files → Type 0) (old mid new : History) → LeavesOnly old mid P → LeavesOnly mid new P → LeavesOnly old new P
-leaves_then P old mid new one more = record {
-  later = (let a = one.later in let b = more.later in omega (arith, a, b));
-  kept = λ k le. more.kept k (let a = one.later in omega (arith, le, a)) ∙ one.kept k le;
-  each = λ k from to image is. elim (cases_lt mid.moment k) [
-    | inl later ↦ more.each k (omega (arith, later)) to image is
-    | inr early ↦ one.each k from early image (subst (λ (had : Had). IsImage had image) (more.kept k early) is)
-  ];
 }
 
 -- and at the last of its moments
@@ -109,9 +91,6 @@ opening_keeps job s old new each images = record {
 
 settled_now : (h : History) (files : Files) → IsSettledAs h files → IsSettledAs h (files_now h)
 settled_now h files settled = subst (IsSettledAs h) (sym (ap files_of settled.is)) settled
-
-pub settled_files_are : (h : History) (files : Files) → IsSettledAs h files → files_now h ≡ files
-settled_files_are h files settled = ap files_of settled.is
 
 open_settled : (bound : Bound) (asks : Option ℕ) (lens : Lens) (files : Files) (h : History) (opened : Opened) → IsOpen (asked bound asks lens) files h opened → IsSettledAs h (files_now h)
 open_settled bound asks lens files h opened (kept passes settled) = settled_now h files settled
@@ -209,7 +188,7 @@ module _ {L : Type 0} (tells : Type 0) (lines : L → List Line) (available : L 
           let d = desk in
           let there = d.is.0 in
           let here : files_now (history before) name.Meta ≡ Some (meta_text (meta_of s)) =
-          ap (λ (f : Files). f name.Meta) (sym (settled_files_are (history after) (files_now (history before)) settled)) ∙ true_meta (files_now (history after)) there in
+          ap (λ (f : Files). f name.Meta) (sym (settled_files (history after) (files_now (history before)) settled)) ∙ true_meta (files_now (history after)) there in
           sym (passes.found.record_is.only (meta_of s) (record { canonical = is_wanted.record_is d.desk.cuts; text = here }))
       meta_same (begun empty begins_as settled) = begins_as.meta ∙ sym (record_is empty (λ e. []))
 
@@ -224,10 +203,10 @@ module _ {L : Type 0} (tells : Type 0) (lines : L → List Line) (available : L 
         parts_are = ap (λ (m : Meta). m.parts) meta_is ∙ parts
 
         names_of : IsOpen (asked bound asks (lens_of counts found)) (files_now (history before)) (history after) opened → AreListed (files_now (history after)) opened.names
-        names_of (kept passes settled) = subst (λ (f : Files). AreListed f opened.names) (sym (settled_files_are (history after) (files_now (history before)) settled)) (state_listed (files_now (history before)) opened.names passes.listed)
+        names_of (kept passes settled) = subst (λ (f : Files). AreListed f opened.names) (sym (settled_files (history after) (files_now (history before)) settled)) (state_listed (files_now (history before)) opened.names passes.listed)
         names_of (begun empty begins_as settled) =
             let first_one = first_meta (asked bound asks (lens_of counts found)) in
-            subst (λ (f : Files). AreListed f opened.names) (sym (settled_files_are (history after) (only_meta first_one) settled)) (subst (λ (l : List Name). AreListed (only_meta first_one) l) (sym begins_as.names) (none_listed first_one))
+            subst (λ (f : Files). AreListed f opened.names) (sym (settled_files (history after) (only_meta first_one) settled)) (subst (λ (l : List Name). AreListed (only_meta first_one) l) (sym begins_as.names) (none_listed first_one))
 
         found_of : IsFoundOf s (files_now (history after)) opened
         found_of =

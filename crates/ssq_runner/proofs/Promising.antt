@@ -6,6 +6,7 @@ use Rattle.ssq_outside.specs.declared.name.Name.TheVariants as name
 use Rattle.ssq_outside.specs.Files.{IsEmpty}
 use Rattle.ssq_outside.specs.History.{History, files_now, LeavesNow, LeavesOnly}
 use Rattle.ssq_outside.specs.Logs.{Line}
+use Rattle.ssq_outside.proofs.Steps.{joined as leaves_then}
 use Rattle.ssq_shape.specs.declared.bound.Bound.{Bound}
 use Rattle.ssq_core.specs.Course.{Job}
 use Rattle.ssq_core.specs.Standing.{IsThere, Stands}
@@ -29,7 +30,7 @@ use Rattle.ssq_runner.specs.Ending.{IsOwnRun}
 use Rattle.ssq_runner.specs.Running.{Given, IsOf, IsOpenedOn, IsRunOf, KeepsStanding, LeavesStanding, sought_in}
 use Rattle.ssq_runner.proofs.Readying.{asked_count, asked_found}
 use Rattle.ssq_runner.proofs.Firsts.{sought_same}
-use Rattle.ssq_runner.proofs.Owning.{is_wanted, are_states, record_is, owned, runs_on, leaves_last, leaves_then, stand_with, stands_now}
+use Rattle.ssq_runner.proofs.Owning.{is_wanted, are_states, record_is, owned, runs_on, leaves_last, stand_with, stands_now}
 
 -- logs that were asked hold what they held
 pub asked_lines : {L : Type 0} (tells : Type 0) (lines : L → List Line) (available : L → ℕ) (answers : L → List ℕ) (faults : L → ℕ) (olds news : List L) (found : List ℕ) → AreAsked tells lines available answers faults olds news found → tells → map lines news ≡ map lines olds

@@ -1,5 +1,5 @@
 -- A checkpoint that can be resumed: the opening takes it, and what is opened is what it stands for.
-use Rattle.std.proofs.Common.{◌≡◌, ◌<◌, ◌≤◌, ◌+◌, ◌++◌, ◌∙◌, nat_lt, ℕ, zero, suc, Bool, true, false, true≢false, is_some, List, [], ◌∷◌, length, map, get_or, sum, take, drop, Option, Some, None, refl, sym, ap, subst, arith, inl, inr, if◌then◌else◌}
+use Rattle.std.proofs.Common.{◌≡◌, ◌<◌, ◌≤◌, ◌+◌, ◌++◌, ◌∙◌, nat_lt, ℕ, zero, suc, Bool, true, false, true≢false, List, [], ◌∷◌, length, map, get_or, sum, take, drop, Option, Some, None, refl, sym, ap, subst, arith, inl, inr, if◌then◌else◌}
 use Rattle.std.specs.Prelude.{IsTrue}
 use Rattle.std.proofs.lemmas.Bool.{ltb-true, and_parts}
 use Rattle.std.proofs.lemmas.Option.{none-some}
@@ -7,7 +7,7 @@ use Rattle.std.proofs.lemmas.List.{map-append, length-map, length-drop, take-app
 use Rattle.std.proofs.lemmas.List.Sums.{sum_by-cons}
 use Rattle.ssq_outside.specs.declared.name.Name.{Name}
 use Rattle.ssq_outside.specs.declared.name.Name.TheVariants as name
-use Rattle.ssq_outside.specs.Files.{Files, Content}
+use Rattle.ssq_outside.specs.Files.{Files}
 use Rattle.ssq_outside.specs.History.{files_now}
 use Rattle.ssq_outside.specs.Logs.{Held, Line}
 use Rattle.ssq_plans.specs.declared.part.PartEnd.{PartEnd}
@@ -17,6 +17,8 @@ use Rattle.ssq_core.specs.Staying.{IsNoOther}
 use Rattle.ssq_core.specs.Sound.{StandsOrEmpty}
 use Rattle.ssq_course.specs.Setting.{Setting, job_of, course_of, parts_in, end_at, cut_of as offsets_of}
 use Rattle.ssq_meaning.specs.Parts.{Part}
+use Rattle.ssq_core.proofs.Files.{there_of, not_there}
+use Rattle.ssq_core.proofs.Settling.{settled_files}
 use Rattle.ssq_open.specs.Epochs.{follows}
 use Rattle.ssq_open.specs.Lens.{asked, found_in, found_from}
 use Rattle.ssq_open.specs.Sought.{Sought}
@@ -32,16 +34,10 @@ use Rattle.ssq_runner.specs.Ending.{Begun, IsOwnRun, setting_in, cuts_in}
 use Rattle.ssq_runner.specs.Running.{Given, IsRunOf, sought_in}
 use Rattle.ssq_runner.specs.Complete.{CanBeResumed, is_empty as resumes_empty, stands as resumes, covered_by, planned_in, commits_in, covered_in, committed_in, GoOnFrom}
 use Rattle.ssq_runner.proofs.Readying.{zero_at, begins_zero, follows_count}
-use Rattle.ssq_runner.proofs.Owning.{counts_same, settled_files_are}
+use Rattle.ssq_runner.proofs.Owning.{counts_same}
 use Rattle.ssq_runner.proofs.Growing.{follow_from}
 
 -- ---- files
-
-gone : (files : Files) (q : Name) → files q ≡ None → IsThere files q → ⊥
-gone files q none there = true≢false (sym (subst (λ (c : Content). is_some c ≡ true) none there))
-
-there_is : (files : Files) (q : Name) (bytes : List ℕ) → files q ≡ Some bytes → IsThere files q
-there_is files q bytes is = subst (λ (c : Content). is_some c ≡ true) (sym is) refl
 
 -- a checkpoint without epochs says nothing of where they would begin
 restarted : (s : Setting) (one other : Cuts) (k : ℕ) (files : Files) → StandsAt (course_of s one) 0 k files → StandsAt (course_of s other) 0 k files
@@ -59,7 +55,7 @@ restarted s one other k files at = record {
 
     absent : (q : Name) (bytes : List ℕ) → (IsThere files q → ⊥) → IsNoOther files q (truth (course_of s one) q) → IsNoOther files q bytes
     absent q bytes never (inl none) = inl none
-    absent q bytes never (inr is) = absurd (never (there_is files q (truth (course_of s one) q) is))
+    absent q bytes never (inr is) = absurd (never (there_of files q (truth (course_of s one) q) is))
 
     are : (q : Name) → IsNoOther files q (truth (course_of s other) q)
     are name.Meta = at.are_true name.Meta
@@ -244,8 +240,8 @@ module _ {L : Type 0} (tells : Type 0) (lines : L → List Line) (available : L 
       covered_is = zero_cut (length b.found.plans) (ap length is.plans);
       committed_is = zero_cut b.found.committed is.committed;
     }
-    resumed_is known files s (kept passes settled) (resumes is long) = stood known files (settled_files_are b.start files settled) is long
-    resumed_is known files s (begun empty first settled) (resumes is long) = absurd (gone files name.Meta (empty name.Meta) (is.at.needed name.Meta refl))
+    resumed_is known files s (kept passes settled) (resumes is long) = stood known files (settled_files b.start files settled) is long
+    resumed_is known files s (begun empty first settled) (resumes is long) = absurd (not_there files name.Meta (empty name.Meta) (is.at.needed name.Meta refl))
 
     -- the cuts of plans that go on from those that were opened go on from the checkpoint
     module _ (cuts : Cuts) (same : (e : ℕ) → e ≤ length b.found.plans → cuts e ≡ cuts_in b b.found.plans e) where
@@ -258,5 +254,5 @@ module _ {L : Type 0} (tells : Type 0) (lines : L → List Line) (available : L 
 
       pub goes_on_from : (known : List ℕ) (files : Files) (s : Sought) → IsOpen s files b.start b.found → (of : CanBeResumed (job_of x) known files) → GoOnFrom of (λ e. offsets_of (cuts e))
       goes_on_from known files s open_is (resumes_empty none) = tt
-      goes_on_from known files s (kept passes settled) (resumes is long) = stood_on files (settled_files_are b.start files settled) is
-      goes_on_from known files s (begun empty first settled) (resumes is long) = absurd (gone files name.Meta (empty name.Meta) (is.at.needed name.Meta refl))
+      goes_on_from known files s (kept passes settled) (resumes is long) = stood_on files (settled_files b.start files settled) is
+      goes_on_from known files s (begun empty first settled) (resumes is long) = absurd (not_there files name.Meta (empty name.Meta) (is.at.needed name.Meta refl))

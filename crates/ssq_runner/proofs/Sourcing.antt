@@ -34,8 +34,8 @@ use Rattle.ssq_runner.specs.Putting.{OutRises}
 use Rattle.ssq_runner.specs.Ending.{Begun, Owned, setting_in, cuts_in, IsEnd, IsUncounted, finished, stopped, unput, uncounted as rounds_uncounted, starved as rounds_starved}
 use Rattle.ssq_runner.specs.Running.{Given, RunEnd, IsRunOf, uncounted, refused, starved, ran}
 use Rattle.ssq_runner.specs.Sources.{HasCount, IsSettingFor, IsUnparted}
-use Rattle.ssq_runner.proofs.Turning.{rises_from}
 use Rattle.ssq_logs.specs.Opened.{Part, parts_from, parts_of, AreLogsOf}
+use Rattle.ssq_drive.proofs.Making.{risen_from}
 
 -- ---- how many there are
 
@@ -100,7 +100,7 @@ module _ {L : Type 0} (tells : Type 0) (lines : L → List Line) (available : L 
   stop_counts owned s cuts found planned e files first disk disk_now logs inputs inputs_now out out_now key cause.LogFault le risen is = risen is.1
   stop_counts owned s cuts found planned e files first disk disk_now logs inputs inputs_now out out_now key (cause.LogShort a b m k) le risen is = tt
   stop_counts owned s cuts found planned e files first disk disk_now logs inputs inputs_now out out_now key (cause.Damaged q) le risen is = tt
-  stop_counts owned s cuts found planned e files first disk disk_now logs inputs inputs_now out out_now key cause.DiskFault le risen is = rises_from disk first disk_now le is
+  stop_counts owned s cuts found planned e files first disk disk_now logs inputs inputs_now out out_now key cause.DiskFault le risen is = risen_from disk first disk_now le is
   stop_counts owned s cuts found planned e files first disk disk_now logs inputs inputs_now out out_now key cause.Full le risen is = tt
   stop_counts owned s cuts found planned e files first disk disk_now logs inputs inputs_now out out_now key cause.NoMemory le risen is = tt
 

@@ -1,5 +1,5 @@
 -- How a round that is not the first begins, or does not.
-use Rattle.std.proofs.Common.{◌≡◌, ◌<◌, ◌≤◌, ◌+◌, ◌++◌, ◌||◌, ◌∙◌, nat_lt, ℕ, zero, suc, Bool, true, false, true≢false, List, [], ◌∷◌, length, get_or, Option, Some, None, Result, Ok, Err, OnOk, IfErr, inl, inr, refl, sym, ap, subst, arith, if◌then◌else◌}
+use Rattle.std.proofs.Common.{◌≡◌, ◌<◌, ◌≤◌, ◌+◌, ◌++◌, ◌∙◌, nat_lt, ℕ, zero, suc, Bool, true, false, true≢false, List, [], ◌∷◌, length, get_or, Option, Some, None, Result, Ok, Err, OnOk, IfErr, inl, inr, refl, sym, ap, subst, arith, if◌then◌else◌}
 use Rattle.std.proofs.lemmas.List.{append-nil}
 use Rattle.std.proofs.lemmas.Bool.{ltb-true}
 use Rattle.std.proofs.lemmas.Option.{none-some}
@@ -17,6 +17,7 @@ use Rattle.ssq_board.specs.declared.front.Cause.TheVariants as cause
 use Rattle.ssq_open.specs.declared.wanted.Opened.{Opened}
 use Rattle.ssq_logs.specs.Asked.{AreAsked}
 use Rattle.ssq_drive.specs.Rounds.{IsRoundStop}
+use Rattle.ssq_drive.proofs.Dueness.{first_of as first_not}
 use Rattle.ssq_runner.specs.declared.fault.RunFault.{RunFault}
 use Rattle.ssq_runner.specs.declared.fault.RunFault.TheVariants as fault
 use Rattle.ssq_runner.specs.Faults.{fault_by}
@@ -58,11 +59,6 @@ short_apart (cause.Damaged q) less = absurd less
 short_apart cause.DiskFault less = absurd less
 short_apart cause.Full less = absurd less
 short_apart cause.NoMemory less = absurd less
-
--- of two that do not hold the first does not
-first_not : (a b : Bool) → (a || b) ≡ false → a ≡ false
-first_not true b not = not
-first_not false b not = refl
 
 own_of : Cause → Option Cause → Cause
 own_of d None = d

@@ -3,17 +3,13 @@ use Rattle.std.proofs.Common.{◌≡◌, ◌<◌, ◌+◌, ◌∙◌, ℕ, suc, 
 use Rattle.std.specs.List.{sum_by}
 use Rattle.std.proofs.lemmas.List.Sums.{sum_by-cons}
 use Rattle.ssq_outside.specs.Logs.{Line}
-use Rattle.ssq_outside.specs.Faults.{Rises}
 use Rattle.ssq_logs.specs.declared.fault.LengthFault.{LengthFault}
 use Rattle.ssq_logs.specs.declared.fault.LengthFault.TheVariants as length_fault
 use Rattle.ssq_logs.specs.Asked.{IsAnswered, IsStopped, IsStopAt, most_lines}
+use Rattle.ssq_desk.proofs.Wholes.{rises_some}
 use Rattle.ssq_runner.specs.Rounds.{Round, HaveAnswered}
 use Rattle.ssq_runner.specs.Ending.{HasSoMany, IsUncounted}
 use Rattle.ssq_runner.proofs.Answering.{answered_at}
-
--- what rose is not 0
-pub risen_above : (before now : ℕ) → Rises before now → 0 < now
-risen_above before now risen = omega (arith, risen)
 
 module _ {L : Type 0} (tells : Type 0) (lines : L → List Line) (available : L → ℕ) (answers : L → List ℕ) (faults : L → ℕ) where
   -- why logs were not counted, where so many stand before them
@@ -33,7 +29,7 @@ module _ {L : Type 0} (tells : Type 0) (lines : L → List Line) (available : L 
   stopped_at : (number : ℕ) (old new : L) (olds news : List L) (fault : LengthFault) → IsStopAt tells lines available answers faults number old new fault → UncountedFrom number (old ∷ olds) (new ∷ news) fault
   stopped_at number old new olds news (length_fault.Full at found) is =
       (is.1, (0, (let e = is.0 in omega (arith, e)), record { old = old; own = new; was = refl; is = refl; there = is.2.there; within = is.2.within; grown = is.2.grown; same = is.2.same }))
-  stopped_at number old new olds news length_fault.LogFault is = (let r = risen_above (faults old) (faults new) is.cause in let e = sum_by-cons faults new news in omega (arith, r, e))
+  stopped_at number old new olds news length_fault.LogFault is = (let r = rises_some (faults old) (faults new) is.cause in let e = sum_by-cons faults new news in omega (arith, r, e))
   stopped_at number old new olds news length_fault.NoMemory is = tt
 
   stopped_from : (number : ℕ) (olds news : List L) (fault : LengthFault) → IsStopped tells lines available answers faults number olds news fault → UncountedFrom number olds news fault

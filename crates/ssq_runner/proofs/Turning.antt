@@ -22,13 +22,13 @@ use Rattle.ssq_terms.specs.Laws.{due_at}
 use Rattle.ssq_promise.specs.Run.{AreFilesOf, CallFailed, RunsAreJoined, WasRun, as_planned, one_tried}
 use Rattle.ssq_board.specs.declared.front.Cause.{Cause}
 use Rattle.ssq_board.specs.declared.front.Cause.TheVariants as cause
-use Rattle.ssq_outside.specs.Faults.{Rises}
 use Rattle.ssq_meaning.specs.Feeding.{LineAt}
 use Rattle.ssq_meaning.specs.Meaning.{Values}
 use Rattle.ssq_board.specs.Core.{next_ends, is_behind, is_of_epoch}
 use Rattle.ssq_board.specs.Rounds.{HasCap}
 use Rattle.ssq_open.specs.Looking.{begins}
 use Rattle.ssq_plans.specs.declared.meta.Meta.{Meta}
+use Rattle.ssq_board.proofs.Leasts.{some_is as same_cause}
 use Rattle.ssq_desk.specs.declared.closed.NextRound.{NextRound}
 use Rattle.ssq_desk.specs.declared.told.Told.{Told}
 use Rattle.ssq_drive.specs.Damaged.{IsDamagedIn}
@@ -36,6 +36,7 @@ use Rattle.ssq_drive.specs.Good.{HasGoodLines}
 use Rattle.ssq_drive.specs.declared.round.Stopped.{Stopped}
 use Rattle.ssq_drive.specs.Rounds.{IsRound, RoundRan, Ended, IsOwn, IsFoundOf, IsMeant, IsMore, CanBegin, AreReturned, PlansOn, AreTold, IsRoundStop, IsFaultAt, IsKeyAt, IsOfOpen, StoppedAtCall, setting_for, first_of}
 use Rattle.ssq_desk.specs.Contents.{line_of}
+use Rattle.ssq_drive.proofs.Making.{risen_from}
 use Rattle.ssq_runner.specs.Lens.{lens_of}
 use Rattle.ssq_runner.specs.Rounds.{Round, AreNext, AreRounds, HaveAnswered, IsOne, epochs_after}
 use Rattle.ssq_runner.specs.Told.{told_text}
@@ -178,10 +179,6 @@ module _ {L : Type 0} (tells : Type 0) (lines : L → List Line) (available : L 
 fault_moved : (s t : Setting) (cuts others : Cuts) (e f : ℕ) (at : Option LineAt) → s ≡ t → cuts ≡ others → e ≡ f → IsFaultAt s cuts e at → IsFaultAt t others f at
 fault_moved s t cuts others e f at same cut here is = subst (λ (x : Setting). IsFaultAt x others f at) same (subst (λ (c : Cuts). IsFaultAt s c f at) cut (subst (λ (n : ℕ). IsFaultAt s cuts n at) here is))
 
--- a count that rose rose from below, too
-pub rises_from : (first before now : ℕ) → first ≤ before → Rises before now → Rises first now
-rises_from first before now le risen = omega (arith, le, risen)
-
 key_moved : (one other : Type 0) (s t : Setting) (cuts others : Cuts) (e f : ℕ) (key : Option Values) → (other → s ≡ t) → (other → one) → cuts ≡ others → e ≡ f → IsSomeAnd key (λ own. one → IsKeyAt s cuts e own)
     → IsSomeAnd key (λ own. other → IsKeyAt t others f own)
 key_moved one other s t cuts others e f None same own cut here is = absurd is
@@ -205,7 +202,7 @@ stop_moved tells one other s t cuts others found planned e f files first disk di
 stop_moved tells one other s t cuts others found planned e f files first disk disk_now logs key (cause.LogShort a b m k) same query known own cut at le is = is
 stop_moved tells one other s t cuts others found planned e f files first disk disk_now logs key (cause.Damaged q) same query known own cut at le is =
     ((λ o. is.0 (own o)), λ told. subst (λ (x : Setting). IsDamagedIn (keeping_of x.job.bound.shape x.job.partitions) f files q) (same told) (subst (λ (n : ℕ). IsDamagedIn (keeping_of s.job.bound.shape s.job.partitions) n files q) at (is.1 told)))
-stop_moved tells one other s t cuts others found planned e f files first disk disk_now logs key cause.DiskFault same query known own cut at le is = rises_from first disk disk_now le is
+stop_moved tells one other s t cuts others found planned e f files first disk disk_now logs key cause.DiskFault same query known own cut at le is = risen_from first disk disk_now le is
 stop_moved tells one other s t cuts others found planned e f files first disk disk_now logs key cause.Full same query known own cut at le is =
     (is.0, full_by is.1, (λ o. more_by s t cuts others found planned (same (known o)) cut (is.2 (own o))), sym at ∙ is.3)
   where
@@ -220,13 +217,6 @@ ok_err next why is = cc
 abbrev why_or : Stopped → Ended → Stopped
 why_or d (Ok next) = d
 why_or d (Err why) = why
-
-same_cause : (f g : Cause) → Some f ≡ Some g → f ≡ g
-same_cause f g is = ap (or_cause f) is
-  where
-    or_cause : Cause → Option Cause → Cause
-    or_cause d None = d
-    or_cause d (Some c) = c
 
 -- a fault of a round is one of an epoch where its cause is
 epoch_fault_by : (why : Cause) (key : Option Values) → is_epoch_fault (Err (fault_by why key)) ≡ is_of_epoch why

@@ -1,5 +1,5 @@
 -- The sink files are gone through, one after the other.
-use Rattle.std.proofs.Common.{◌≡◌, ℕ, zero, suc, ◌+◌, ◌<◌, ◌≤◌, max, ◌^◌, List, [], ◌∷◌, ◌++◌, length, take, Some, None, is_some, true≢false, refl, sym, ap, ◌∙◌, subst, append_assoc, append-nil, arith, inl, inr, ◌⊎◌, IsUtf8, Result, Ok, Err, OnOk}
+use Rattle.std.proofs.Common.{◌≡◌, ℕ, zero, suc, ◌+◌, ◌<◌, ◌≤◌, max, ◌^◌, List, [], ◌∷◌, ◌++◌, length, take, Some, refl, sym, ap, ◌∙◌, subst, append_assoc, append-nil, arith, inl, inr, ◌⊎◌, IsUtf8, Result, Ok, Err, OnOk}
 use Rattle.std.specs.Prelude.{slice_get, Contains, unwrap_or}
 use Rattle.std.proofs.lemmas.List.Elements.{Contains-append_left, Contains-push, Contains-push_cases}
 use Rattle.std.proofs.lemmas.Bool.{cases_lt}
@@ -12,6 +12,7 @@ use Rattle.ssq_shape.specs.declared.bound.Bound.{Bound}
 use Rattle.ssq_shape.specs.declared.bound.Output.{Output}
 use Rattle.ssq_shape.specs.Plain.{output_names}
 use Rattle.ssq_json.specs.Stored.{AreRows, lines_of}
+use Rattle.ssq_json.proofs.Restoring.{none_is_not}
 use Rattle.ssq_meaning.specs.Meaning.{Values}
 use Rattle.ssq_sink.specs.declared.fault.SinkFault.{SinkFault}
 use Rattle.ssq_sink.specs.declared.fault.SinkFault.TheVariants.{Damaged, DiskFault, NoMemory}
@@ -33,9 +34,6 @@ on_ok_both (Ok x) f p q = f p q
 on_ok_both (Err e) f p q = tt
 
 -- ---- the files that were gone through
-
-none_is_not : {A R : Type 0} {x : A} → None ≡ Some x → R
-none_is_not e = absurd (true≢false (sym (ap is_some e)))
 
 some_is : {A : Type 0} {a b : A} → Some a ≡ Some b → a ≡ b
 some_is {A} {a} {b} e = ap (λ o. unwrap_or o a) e
@@ -68,11 +66,11 @@ first_more query files epochs rows n len own each e some here =
       | inr last ↦ subst (λ k. IsSinkOf query files k some) (sym (last.0 ∙ len)) (subst (IsSinkOf query files n) last.1 own)
     ]
 
-joined-push : (epochs : List (List Values)) (rows : List Values) → joined (epochs ++ rows ∷ []) ≡ joined epochs ++ rows
+pub joined-push : (epochs : List (List Values)) (rows : List Values) → joined (epochs ++ rows ∷ []) ≡ joined epochs ++ rows
 joined-push [] rows = append-nil rows
 joined-push (own ∷ epochs) rows = ap (λ l. own ++ l) (joined-push epochs rows) ∙ sym (append_assoc own (joined epochs) rows)
 
-get_some : {A : Type 0} (xs : List A) (e : ℕ) → e < length xs → (x : A) × (slice_get xs e ≡ Some x)
+pub get_some : {A : Type 0} (xs : List A) (e : ℕ) → e < length xs → (x : A) × (slice_get xs e ≡ Some x)
 get_some [] e low = absurd (omega arith)
 get_some (x ∷ xs) zero low = (x, refl)
 get_some (x ∷ xs) (suc e) low = get_some xs e (omega arith)

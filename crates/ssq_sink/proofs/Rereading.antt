@@ -3,7 +3,6 @@ use Rattle.std.proofs.Common.{◌≡◌, ◌⊎◌, inl, inr, ℕ, suc, ◌+◌,
 use Rattle.std.specs.Prelude.{if◌then◌else◌}
 use Rattle.std.specs.List.{All}
 use Rattle.std.proofs.lemmas.Bool.{cases_lt}
-use Rattle.std.proofs.lemmas.Bool.Decides.{nat_tests}
 use Rattle.std.proofs.lemmas.List.{drop_all, length-append, length-map}
 use Rattle.std.proofs.lemmas.List.Elements.{All-nil, All-cons, All-head, All-tail, All-push}
 use Rattle.ssq_time.specs.Time.{IsStampTime}
@@ -13,6 +12,7 @@ use Rattle.ssq_value.specs.Kind.{IfTime}
 use Rattle.ssq_shape.specs.declared.bound.Output.{Output}
 use Rattle.ssq_json.specs.RowText.{heads_from, heads_of, row_text}
 use Rattle.ssq_json.specs.Stored.{AreRows, AreStoredIn, line_of, lines_of}
+use Rattle.ssq_json.proofs.Writing.{not_empty as some_items}
 use Rattle.ssq_meaning.specs.Meaning.{Values}
 use Rattle.ssq_meaning.specs.Table.{key_cells}
 use Rattle.ssq_sink.specs.Sink.{line_with}
@@ -53,7 +53,7 @@ one_done names kinds bytes left after done row is stored so = record {
 abbrev pub FindsLine : List (List ℕ) → List ColType → (left after : List ℕ) → Values → Type 0
 FindsLine names kinds left after row = (one : Values) (rest : List ℕ) → AreStoredIn kinds one → left ≡ line_of names one ++ rest → (row ≡ one) × (after ≡ rest)
 
-no_line : (names : List (List ℕ)) (row : Values) (after : List ℕ) → [] ≡ line_of names row ++ after → ⊥
+pub no_line : (names : List (List ℕ)) (row : Values) (after : List ℕ) → [] ≡ line_of names row ++ after → ⊥
 no_line names row after e = let len = length-append (line_of names row) after in let own = length-append (row_text names row) (10 ∷ []) in omega (arith, ap length e, len, own)
 
 pub one_left : (names : List (List ℕ)) (kinds : List ColType) (bytes left after : List ℕ) (row : Values) → left ≡ line_of names row ++ after → FindsLine names kinds left after row
@@ -110,9 +110,6 @@ times_stored [] [] are = All-nil (IfTime IsStampTime)
 times_stored [] (value ∷ row) are = absurd are
 times_stored (kind ∷ kinds) [] are = absurd are
 times_stored (kind ∷ kinds) (value ∷ row) are = All-cons (IfTime IsStampTime) value row are.0.time (times_stored kinds row are.1)
-
-some_items : (n : ℕ) → (suc n == 0) ≡ false
-some_items n = grind (arith, nat_tests)
 
 heads_length : (later : Bool) (names : List (List ℕ)) → length (heads_from later names) ≡ length names
 unfolding heads_from

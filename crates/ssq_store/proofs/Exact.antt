@@ -9,7 +9,7 @@ use Rattle.ssq_version.specs.Text.{delta_text, snapshot_text, AreFilesApart}
 use Rattle.ssq_version.proofs.WhatIsNew.{one_after, leads_between}
 use Rattle.ssq_store.specs.Loaded.{IsSnapshot, IsDelta, IsNoDelta, ByEither, Makes, DamagedByEither, IsDamaged, AreTrue}
 
-some_once : {X : Type 0} (x y : X) → Some x ≡ Some y → x ≡ y
+pub some_once : {X : Type 0} (x y : X) → Some x ≡ Some y → x ≡ y
 some_once x y e = cc
 
 one_snapshot : AreFilesApart → (content : Content) (p v : ℕ) (one other : State) → p < 2 ^ 32 → v < 2 ^ 32 → IsSnapshot content p v one → IsSnapshot content p v other → one ≡ other

@@ -1,11 +1,9 @@
 -- States as entries of a snapshot with those of deltas over them.
-use Rattle.std.proofs.Common.{◌≡◌, ℕ, suc, List, Option, Some, None, IfNone, IfSome, IsSomeAnd, All, true≢false, is_some, [], ◌∷◌, arith, refl, sym, ap, subst, ◌∙◌}
-use Rattle.std.specs.List.{AllByRecursion}
+use Rattle.std.proofs.Common.{◌≡◌, ℕ, suc, List, Option, Some, None, IfNone, IfSome, IsSomeAnd, true≢false, is_some, [], arith, refl, sym, ap, subst, ◌∙◌}
 use Rattle.std.specs.List.Sorted.{IsStrictlySortedBy}
 use Rattle.std.specs.Global.{Vec}
-use Rattle.std.specs.Map.{values_of}
 use Rattle.std.proofs.lemmas.List.{length-map}
-use Rattle.std.proofs.lemmas.List.Elements.{All-from_recursion, recursion_from_All}
+use Rattle.std.proofs.lemmas.List.Elements.{All-from_recursion}
 use Rattle.ssq_outside.specs.declared.name.Name.TheVariants as name
 use Rattle.ssq_outside.specs.Files.{Files}
 use Rattle.ssq_version.specs.State.{State, Change, AreNews, IsChange, IsShort, IsShortOrNone, IsState, by_bytes, laid, layered, said_of}
@@ -13,21 +11,10 @@ use Rattle.ssq_version.specs.Text.{AreEntries, file_text, shown}
 use Rattle.ssq_version.specs.declared.entry.Entry.{Entry}
 use Rattle.ssq_version.specs.declared.form.Form.TheVariants as form
 use Rattle.ssq_version.proofs.Laid.{laid_kept, layered_after, layered_kept, layered_said}
-use Rattle.ssq_version.proofs.Spelled.{change_is_kept, keys_said, said_of-state_of, state_is_kept, state_of}
+use Rattle.ssq_version.proofs.Spelled.{change_is_kept, said_of-state_of, state_is_kept, state_of}
+use Rattle.ssq_version.proofs.Leading.{said_kept}
 use Rattle.ssq_store.specs.Loaded.{IsSnapshot, IsTold, Makes}
 use Rattle.ssq_store.proofs.Making.{if_some, makes_next, makes_snapshot}
-
--- what a state says of its keys is kept as a change is
-pub said_kept : (state : State) → IsState state → IsChange (said_of state)
-said_kept state kept = record {
-  ascend = subst (IsStrictlySortedBy by_bytes) (sym (keys_said state)) kept.ascend;
-  keys = subst (All IsShort) (sym (keys_said state)) kept.keys;
-  values = All-from_recursion IsShortOrNone (values_of (said_of state)) (short state (recursion_from_All IsShort (values_of state) kept.values));
-}
-  where
-    short : (state : State) → AllByRecursion IsShort (values_of state) → AllByRecursion IsShortOrNone (values_of (said_of state))
-    short [] all = tt
-    short (entry ∷ state) all = (all.0, short state all.1)
 
 -- the state whose file was read
 pub read_state : (text : List ℕ) (partition version : ℕ) (entries : Change) → AreEntries form.Snapshot entries → text ≡ file_text form.Snapshot partition version entries
@@ -85,9 +72,6 @@ is_read (Some file) of partition version P is each = (file.2, each file.2 (λ i.
 pub told_change : (text : List ℕ) (partition version : ℕ) (state : State) (entries : Change) → AreEntries form.Delta entries → text ≡ file_text form.Delta partition version entries → AreNews state entries
     → IsTold (Some text) partition version state entries
 told_change text partition version state entries are is news = record { kept = change_is_kept entries are; few = are.few; new = news; is = ap Some is }
-
-pub some_once : {X : Type 0} (one other : X) → Some one ≡ Some other → one ≡ other
-some_once one other is = cc
 
 ascends_nothing : IsStrictlySortedBy by_bytes []
 unfolding IsStrictlySortedBy

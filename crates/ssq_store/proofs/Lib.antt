@@ -1,3 +1,3 @@
 mod Exact
 mod Layers
-mod Making
+pub mod Making

@@ -1,5 +1,5 @@
 -- The rows that sink files hold make the table of the query's meaning.
-use Rattle.std.proofs.Common.{◌≡◌, ◌∙◌, refl, sym, ap, ap₂, subst, ◌+◌, ◌++◌, ◌∷◌, [], ◌<◌, ℕ, zero, suc, List, length, Some, append_assoc, append-nil, arith}
+use Rattle.std.proofs.Common.{◌≡◌, ◌∙◌, refl, sym, ap, ap₂, subst, ◌+◌, ◌++◌, ◌∷◌, [], ◌<◌, ℕ, zero, suc, List, length, Some, arith}
 use Rattle.std.specs.Prelude.{map, slice_get}
 use Rattle.std.specs.List.{range_with_len}
 use Rattle.std.specs.List.Sorted.{IsPermutation}
@@ -18,6 +18,7 @@ use Rattle.ssq_sink.specs.Sink.{is_row_below}
 use Rattle.ssq_sink.specs.Sorted.{sorted}
 use Rattle.ssq_sink.specs.Table.{HasOnce, joined, last_of, last_rows, reading, reading_of}
 use Rattle.ssq_sink.proofs.LastRows.{once-last_rows, replaced-last_rows}
+use Rattle.ssq_sink.proofs.Passes.{joined-push}
 use Rattle.ssq_course.specs.Setting.{cuts_of, parts_in}
 use Rattle.ssq_tables.specs.Agreeing.{ShowsItsKeys, TablesAgree, rows_by_epoch, rows_read}
 use Rattle.ssq_tables.specs.Checkpoint.{CheckpointsHoldTables, rows_in_order}
@@ -27,10 +28,6 @@ use Rattle.ssq_tables.proofs.Reading.{table_rows}
 use Rattle.ssq_tables.proofs.Replacing.{once_permutes, replaced_permutes, sorted_permutes}
 
 -- ---- one list more
-
-joined_push : (epochs : List (List Values)) (own : List Values) → joined (epochs ++ own ∷ []) ≡ joined epochs ++ own
-joined_push [] own = append-nil own
-joined_push (first ∷ epochs) own = ap (λ rows. first ++ rows) (joined_push epochs own) ∙ sym (append_assoc first (joined epochs) own)
 
 last_push : (epochs : List (List Values)) (own : List Values) → last_of (epochs ++ own ∷ []) ≡ own
 last_push [] own = refl
@@ -86,7 +83,7 @@ module _ (query : Bound) (parts : List Part) (cuts : Cuts) where
   adds_up next (suc n) =
       let old = table query parts cuts n in
       let new = out query parts cuts n in
-      subst (λ rows. IsPermutation rows (next_table query.shape query.mode query.outputs old new)) (sym (joined_push (epochs_to n) (rows_of n)))
+      subst (λ rows. IsPermutation rows (next_table query.shape query.mode query.outputs old new)) (sym (joined-push (epochs_to n) (rows_of n)))
       (subst (IsPermutation (joined (epochs_to n) ++ rows_of n)) (sym (next old new))
       (IsPermutation-append (joined (epochs_to n)) old (rows_of n) new (adds_up next n) (sorted_permutes (is_row_below query.order) new)))
 
@@ -109,7 +106,7 @@ module _ (query : Bound) (parts : List Part) (cuts : Cuts) where
       let sorts = sorted_permutes (is_row_below query.order) new in
       let all = once-last_rows query.outputs (rows_of n) (once_permutes query.outputs (rows_of n) new sorts (once n)) in
       let read : last_rows query.outputs (joined (epochs_to n ++ rows_of n ∷ [])) ≡ replaced query.outputs (last_rows query.outputs (joined (epochs_to n))) (rows_of n) =
-      ap (last_rows query.outputs) (joined_push (epochs_to n) (rows_of n)) ∙ replaced-last_rows query.outputs (joined (epochs_to n)) (rows_of n) all in
+      ap (last_rows query.outputs) (joined-push (epochs_to n) (rows_of n)) ∙ replaced-last_rows query.outputs (joined (epochs_to n)) (rows_of n) all in
       subst (λ rows. IsPermutation rows (next_table query.shape query.mode query.outputs old new)) (sym read)
       (subst (IsPermutation (replaced query.outputs (last_rows query.outputs (joined (epochs_to n))) (rows_of n))) (sym (next old new))
       (replaced_permutes query.outputs (last_rows query.outputs (joined (epochs_to n))) old (rows_of n) new (replaces once next n) sorts))

@@ -1,9 +1,8 @@
 -- No two lists of rows have one text.
-use Rattle.std.proofs.Common.{◌≡◌, ◌≢◌, ◌∙◌, ◌⊎◌, inl, inr, refl, sym, ap, ℕ, suc, ◌++◌, ◌∷◌, [], ℤ, pos, negsuc, decimal, Bool, true, false, true≢false, List, length, take, drop, slice_index, Some, append_assoc, arith}
+use Rattle.std.proofs.Common.{◌≡◌, ◌≢◌, ◌∙◌, ◌⊎◌, inl, inr, refl, sym, ap, ℕ, suc, ◌++◌, ◌∷◌, [], ℤ, pos, negsuc, decimal, Bool, true, false, true≢false, List, length, drop, slice_index, Some, append_assoc, arith}
 use Rattle.std.specs.Prelude.{All, FitsSigned, map, unwrap_or}
 use Rattle.std.specs.Fmt.{signed_decimal}
 use Rattle.std.specs.Int.{w64}
-use Rattle.std.proofs.Math.Seq.{take-append_seam}
 use Rattle.std.proofs.lemmas.List.{append_cancel_left}
 use Rattle.std.proofs.lemmas.List.Elements.{All-head, All-tail}
 use Rattle.ssq_field.specs.Decimal.{NoDigit}
@@ -14,11 +13,13 @@ use Rattle.ssq_value.specs.declared.column.ColType.{ColType}
 use Rattle.ssq_value.specs.declared.column.ColType.TheVariants.{Bigint, Str, Timestamp, Bool as Boolean}
 use Rattle.ssq_value.specs.declared.value.Value.{Value}
 use Rattle.ssq_value.specs.declared.value.Value.TheVariants.{Null, Int, Text, Time, Truth}
+use Rattle.ssq_value.proofs.Fronts.{same_fronts}
 use Rattle.ssq_shape.specs.declared.bound.Output.{Output}
 use Rattle.ssq_json.specs.RowText.{head_text, heads_from, heads_of, members_text, row_text, value_text}
 use Rattle.ssq_json.specs.Stored.{AreStoredIn, IsStoredIn, line_of, lines_of}
-use Rattle.ssq_json.proofs.Restoring.{HasLen, below_zero, line_inside, null_is, number_held, quoted_apart, stamp_has_len, text_held, time_held, truth_apart, truth_held}
+use Rattle.ssq_json.proofs.Restoring.{HasLen, below_zero, line_inside, null_is, number_held, quoted_apart, stamp_has_len, text_held, time_held, truth_apart, truth_held, regroup}
 use Rattle.ssq_meaning.specs.Meaning.{Values}
+use Rattle.ssq_sink.proofs.Rereading.{no_line}
 use Rattle.ssq_tables.specs.Agreeing.{SinksAreOfOneRows, TextsAreOfOneRows}
 use Rattle.ssq_tables.specs.Shown.{kinds_of}
 
@@ -43,12 +44,6 @@ truths_apart false false r s e = (refl, ap (drop 5) e)
 truths_apart true false r s e = absurd (true≢false (sym (truth_apart false s r (sym e)).0))
 truths_apart false true r s e = absurd (true≢false (sym (truth_apart false r s e).0))
 
--- two texts with fronts of one length
-fronts : (a b x y : List ℕ) → length a ≡ length b → a ++ x ≡ b ++ y → (a ≡ b) × (x ≡ y)
-fronts a b x y same e =
-    let front : a ≡ b = sym (take-append_seam a x) ∙ ap (take (length a)) e ∙ ap (λ n. take n (b ++ y)) same ∙ take-append_seam b y in
-    (front, append_cancel_left a x y (e ∙ ap (λ c. c ++ y) (sym front)))
-
 stamps_long : (t u : ℤ) (r s : List ℕ) → stamp_text t ++ r ≡ stamp_text u ++ s → length (stamp_text t) ≡ length (stamp_text u)
 stamps_long t u r s e = by (stamp_has_len t r) (stamp_has_len u s)
   where
@@ -62,7 +57,7 @@ times_apart : (t u : ℤ) (r s : List ℕ) → IsStampTime t → IsStampTime u �
 unfolding value_text
 times_apart t u r s of_t of_u e =
     let inside : stamp_text t ++ (34 ∷ r) ≡ stamp_text u ++ (34 ∷ s) = sym (append_assoc (stamp_text t) (34 ∷ []) r) ∙ ap (drop 1) e ∙ append_assoc (stamp_text u) (34 ∷ []) s in
-    let both = fronts (stamp_text t) (stamp_text u) (34 ∷ r) (34 ∷ s) (stamps_long t u (34 ∷ r) (34 ∷ s) inside) inside in
+    let both = same_fronts (stamp_text t) (stamp_text u) (34 ∷ r) (34 ∷ s) (stamps_long t u (34 ∷ r) (34 ∷ s) inside) inside in
     let some : Some t ≡ Some u = sym (stamp_of-stamp_text t of_t) ∙ ap stamp_of both.0 ∙ stamp_of-stamp_text u of_u in
     (ap (λ o. unwrap_or o t) some, ap (drop 1) both.1)
 
@@ -121,9 +116,6 @@ values_apart kind v w r s of_v of_w a b e = by (null_or v) (null_or w)
 abbrev names_in : List Output → List (List ℕ)
 names_in outputs = map (λ output. output.name) outputs
 
-regroup : (a b c d : List ℕ) → (a ++ (b ++ c)) ++ d ≡ a ++ (b ++ (c ++ d))
-regroup a b c d = append_assoc a (b ++ c) d ∙ ap (λ l. a ++ l) (append_assoc b c d)
-
 -- after a value stands a comma or a brace
 no_digit : (outputs : List Output) (row : Values) (rest : List ℕ) → NoDigit (members_text (heads_from true (names_in outputs)) row ++ 125 ∷ rest)
 unfolding heads_from members_text
@@ -159,10 +151,6 @@ line_apart outputs row other r s one two e =
     let also = line_inside names (heads_of names) other s bytes (drop 1 bytes) refl refl e in
     let both = members_apart false outputs row other (10 ∷ r) (10 ∷ s) one two (sym own ∙ also) in
     (both.0, ap (drop 1) both.1)
-
-no_line : (names : List (List ℕ)) (row : Values) (r : List ℕ) → [] ≡ line_of names row ++ r → ⊥
-unfolding row_text
-no_line names row r e = omega (arith, ap length e)
 
 lines_apart : (outputs : List Output) (rows others : List Values) → All (AreStoredIn (kinds_of outputs)) rows → All (AreStoredIn (kinds_of outputs)) others
     → lines_of (names_in outputs) rows ≡ lines_of (names_in outputs) others → rows ≡ others

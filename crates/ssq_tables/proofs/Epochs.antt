@@ -3,12 +3,11 @@ use Rattle.std.proofs.Common.{◌≡◌, sym, subst, ◌+◌, ◌++◌, ◌<◌,
 use Rattle.std.specs.Prelude.{All, FitsSigned, IfOk, IfSome, length}
 use Rattle.std.specs.Int.{w64}
 use Rattle.std.specs.List.{AllByRecursion}
-use Rattle.std.proofs.lemmas.Int.{ints}
 use Rattle.std.proofs.lemmas.List.Elements.{All-from_recursion, recursion_from_All}
 use Rattle.std.proofs.lemmas.Option.{IfSome_then}
 use Rattle.std.proofs.lemmas.Result.{IfOk-weaker}
 use Rattle.ssq_value.specs.declared.column.ColType.{ColType}
-use Rattle.ssq_time.specs.Time.{IsLineTime, IsStampTime}
+use Rattle.ssq_time.specs.Time.{IsLineTime}
 use Rattle.ssq_value.specs.declared.value.Value.{Value}
 use Rattle.ssq_value.specs.declared.value.Value.TheVariants as value
 use Rattle.ssq_value.specs.Kind.{IfTime}
@@ -42,6 +41,7 @@ use Rattle.ssq_meaning.proofs.Handing.{Gives, IsGiven, accepted_all, all_append,
 use Rattle.ssq_meaning.proofs.Keys.{All-by}
 use Rattle.ssq_bind.specs.Read.{streams_read}
 use Rattle.ssq_bind.specs.Typed.{AreTypedBy, IsTypedGroup, read_kinds}
+use Rattle.ssq_json.proofs.Fitting.{stamp_from_line}
 use Rattle.ssq_tables.specs.Shown.{AreOfStreams, CanShow, EpochsAreStored, kinds_of}
 use Rattle.ssq_tables.proofs.Showing.{IsMember, IsOfStream, firsts_have, groups_shown, joins_shown, values_have}
 use Rattle.ssq_tables.proofs.Storing.{rows_stored}
@@ -57,14 +57,11 @@ RowsAreFit rows = (query : Bound) → HasWindows query → (parts : List Part) (
 
 -- ---- the row that a line is
 
-stamp_of_line : (t : ℤ) → IsLineTime t → IsStampTime t
-stamp_of_line t years = (omega (arith, ints, years.0), omega (arith, ints, years.1))
-
 value_fits : (own : Value) → IfInt (FitsSigned w64) own → IfTime IsLineTime own → IfText IsLineText own → IsFit own
 value_fits value.Null number time text = tt
 value_fits (value.Int n) number time text = number
 value_fits (value.Text t) number time text = text
-value_fits (value.Time t) number time text = stamp_of_line t time
+value_fits (value.Time t) number time text = stamp_from_line t time
 value_fits (value.Truth b) number time text = tt
 
 row_fits : (row : Values) → AllByRecursion (IfInt (FitsSigned w64)) row → AllByRecursion (IfTime IsLineTime) row → AllByRecursion (IfText IsLineText) row → AllByRecursion IsFit row

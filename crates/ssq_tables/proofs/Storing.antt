@@ -1,8 +1,7 @@
 -- Values that a query can keep, and that have their types, can stand in a sink file.
-use Rattle.std.proofs.Common.{◌≡◌, ◌≤ℤ◌, ℤ, pos, negsuc, ◌^◌, ◌-◌, List, [], ◌∷◌, Option, Result, Ok, Err, true, int_le, arith, leb-true}
-use Rattle.std.specs.Prelude.{All, FitsSigned, IfOk, IfSome, length, ◌≤◌}
+use Rattle.std.proofs.Common.{◌≡◌, ℤ, pos, negsuc, ◌^◌, ◌-◌, List, [], ◌∷◌, Option, Result, Ok, Err, true, int_le, leb-true}
+use Rattle.std.specs.Prelude.{All, FitsSigned, IfOk, IfSome, length}
 use Rattle.std.specs.Int.{w64}
-use Rattle.std.proofs.lemmas.Int.{ints}
 use Rattle.std.proofs.lemmas.Bool.{and_parts}
 use Rattle.std.proofs.lemmas.Str.{IsUtf8-from_is_utf8}
 use Rattle.std.proofs.lemmas.List.Elements.{All-head, All-tail, recursion_from_All}
@@ -20,6 +19,7 @@ use Rattle.ssq_shape.specs.Plain.{projected}
 use Rattle.ssq_json.specs.Stored.{AreStoredIn, IsStoredIn}
 use Rattle.ssq_meaning.specs.Group.{group_items}
 use Rattle.ssq_bind.specs.Typed.{HasItsKind}
+use Rattle.ssq_json.proofs.Fitting.{at_most, within}
 use Rattle.ssq_tables.specs.Shown.{kinds_of}
 
 fit_stored : (kind : ColType) (value : Value) → IsHeldBy kind value → IsFit value → IsStoredIn kind value
@@ -36,15 +36,8 @@ one_more (Ok value) (Ok values) kind kinds held fit stored = (fit_stored kind va
 one_more (Ok value) (Err why) kind kinds held fit stored = tt
 one_more (Err why) rest kind kinds held fit stored = tt
 
-at_most : (a b : ℤ) → int_le a b ≡ true → a ≤ℤ b
-at_most a b is = grind (arith, ints)
-
 stamped : (t : ℤ) → is_stamp_time t ≡ true → IsStampTime t
 stamped t is = let parts = and_parts _ _ is in (at_most _ t parts.0, at_most t _ parts.1)
-
-within : (n : ℤ) → (negsuc (2 ^ 63 - 1) ≤ℤ n) → (n ≤ℤ pos (2 ^ 63 - 1)) → FitsSigned w64 n
-within (pos n) least most = record { sfits = grind (arith, ints, most) }
-within (negsuc n) least most = record { sfits = grind (arith, ints, least) }
 
 pub counted : (n : ℤ) → is_bigint n ≡ true → FitsSigned w64 n
 counted n is =

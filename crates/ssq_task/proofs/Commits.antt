@@ -12,6 +12,7 @@ use Rattle.ssq_time.specs.Time.{IsLineTime}
 use Rattle.ssq_shape.specs.declared.bound.Bound.{Bound}
 use Rattle.ssq_shape.specs.declared.bound.Stream.{Stream}
 use Rattle.ssq_meaning.specs.Times.{Delay, delay_of, delays, delays_from, later, greatest}
+use Rattle.ssq_meaning.proofs.Water.{later_none}
 use Rattle.ssq_water.specs.Water.{seen_at, AreLineTimes}
 use Rattle.ssq_plans.specs.declared.seen.SeenBy.{SeenBy}
 use Rattle.ssq_plans.specs.Records.{HasLineTime}
@@ -88,10 +89,6 @@ pub lines_timed : (query : Bound) (times : List (Option ℤ)) → AreLineTimes t
 lines_timed query times are = timed (delays query) times are
 
 -- ---- the times that lines tell
-
-pub later_none : (t : Option ℤ) → later t None ≡ t
-later_none None = refl
-later_none (Some t) = refl
 
 pub later_assoc : (a b c : Option ℤ) → later (later a b) c ≡ later a (later b c)
 later_assoc None b c = refl

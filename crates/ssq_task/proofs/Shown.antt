@@ -1,6 +1,6 @@
 -- What a query that keeps nothing shows, and what a task brings by the state that it has.
-use Rattle.std.proofs.Common.{◌≡◌, ◌∷◌, [], List, Option, None, Result, Ok, Err, refl, ap, sym, ◌∙◌, filter, subst}
-use Rattle.std.specs.Prelude.{ℕ, ℤ, true, not, is_some, All, IfSome, IfOk, IfErr}
+use Rattle.std.proofs.Common.{◌≡◌, List, Option, None, Result, Ok, Err, refl, ap, sym, ◌∙◌, filter, subst}
+use Rattle.std.specs.Prelude.{ℕ, ℤ, not, is_some, All, IfSome, IfOk, IfErr}
 use Rattle.std.specs.List.Sorted.{IsPermutation}
 use Rattle.std.proofs.lemmas.List.Elements.{All-map, All-weaker}
 use Rattle.std.proofs.lemmas.List.Sorted.{IsPermutation-refl}
@@ -14,6 +14,7 @@ use Rattle.ssq_meaning.specs.Epochs.{timely}
 use Rattle.ssq_meaning.specs.Fit.{IsFitRow}
 use Rattle.ssq_meaning.specs.Meaning.{Values}
 use Rattle.ssq_meaning.specs.Operator.{Operator, operator_for, operator_of, plain}
+use Rattle.ssq_meaning.proofs.Adding.{filter_true}
 use Rattle.ssq_step.proofs.Printing.{fit_times}
 use Rattle.ssq_task.specs.declared.partition.Held.{Held}
 use Rattle.ssq_task.specs.declared.partition.State.{State}
@@ -25,11 +26,6 @@ use Rattle.ssq_task.specs.Reducing.{values_of, IsGivenBy, IsGiven, IsEpoch, HasB
 
 if_none : {A : Type 0} (P : A → Type 0) (o : Option A) → o ≡ None → IfSome o P
 if_none {A = A} P o none = subst (λ (own : Option A). IfSome own P) (sym none) tt
-
--- all rows are kept
-all_kept : (rows : List FedRow) → filter (λ row. true) rows ≡ rows
-all_kept [] = refl
-all_kept (row ∷ rows) = ap (λ more. row ∷ more) (all_kept rows)
 
 -- its operator is the plain one
 plain_by : (S : Type 0) (shape : Shape) (query : Bound) (partition : ℕ) (old new : List FedRow) (before now : Option ℤ) → IsGivenBy {S = S} shape query partition old new before now None → operator_for shape query ≡ plain
@@ -54,7 +50,7 @@ module _ {S F : Type 0} (tells : Type 0) (written : S → List ℕ) (sealed : F 
       let operator : plain ≡ operator_of query = sym (plain_of S query partition old (timely query now rows) before now given) in
       record {
         shown = subst (λ (o : Operator). IsPermutation brought.rows.items (o.added old (filter (λ row. not (o.is_late now row)) rows) before now)) operator
-            (subst (λ (values : List Values). IsPermutation brought.rows.items values) (shows ∙ ap values_of (sym (all_kept rows))) (IsPermutation-refl brought.rows.items));
+            (subst (λ (values : List Values). IsPermutation brought.rows.items values) (shows ∙ ap values_of (sym (filter_true rows))) (IsPermutation-refl brought.rows.items));
         faultless = subst (λ (o : Operator). o.fault old (timely query now rows) before now ≡ None) operator refl;
         kept = tt;
         changed = λ told. if_none _ brought.delta nothing;

@@ -63,7 +63,7 @@ few_covered (part ∷ parts) (f ∷ found) (from ∷ froms) (to ∷ tos) of is =
 
 -- ---- what was found
 
-sums_within : (xs ys : List ℕ) → ((i : ℕ) → get_or xs i 0 ≤ get_or ys i 0) → sum xs ≤ sum ys
+pub sums_within : (xs ys : List ℕ) → ((i : ℕ) → get_or xs i 0 ≤ get_or ys i 0) → sum xs ≤ sum ys
 sums_within [] ys within = omega arith
 sums_within (x ∷ xs) [] within = omega (arith, sum_by-cons (λ n. n) x xs, within 0, sums_within xs [] (λ i. within (suc i)))
 sums_within (x ∷ xs) (y ∷ ys) within = omega (arith, sum_by-cons (λ n. n) x xs, sum_by-cons (λ n. n) y ys, within 0, sums_within xs ys (λ i. within (suc i)))

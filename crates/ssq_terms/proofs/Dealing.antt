@@ -22,6 +22,7 @@ use Rattle.ssq_open.specs.Epochs.{starts}
 use Rattle.ssq_board.specs.Core.{within, next_end, next_ends, is_behind, has_line, has_line_at}
 use Rattle.ssq_board.specs.Rounds.{HasCap}
 use Rattle.ssq_logs.specs.Asked.{most_lines}
+use Rattle.ssq_board.proofs.Upkeeping.{and_false}
 use Rattle.ssq_terms.specs.Laws.{due_at, IsEndAt, TasksHaveTerms, DuesAreOfMarks, EndsAreOfParts}
 use Rattle.ssq_terms.proofs.Marks.{unmarked}
 use Rattle.ssq_terms.proofs.Starts.{AreParts, start_of_is, starts_start, found_numbers}
@@ -190,13 +191,9 @@ no_line (part ∷ parts) (from ∷ froms) (to ∷ tos) is none =
     neither true b is = cc
     neither false b is = (refl, is)
 
-never_above : (t : Option ℤ) → is_above t t ≡ false
+pub never_above : (t : Option ℤ) → is_above t t ≡ false
 never_above None = refl
 never_above (Some t) = ap not (let least : int_le t t ≡ true = grind (arith, ints) in least)
-
-never_due : (b : Bool) → (b && false) ≡ false
-never_due true = refl
-never_due false = refl
 
 -- what is due after an epoch is told by its watermark and that of the next
 next_due : (s : Setting) (cuts : Cuts) (e : ℕ) → due_at s cuts (e + 1) ≡ (closes s.job.bound && is_above (watermark_at s cuts (e + 1)) (watermark_at s cuts e))
@@ -205,7 +202,7 @@ next_due s cuts e =
 
 pub dues_are : DuesAreOfMarks
 dues_are s cuts = record {
-  first = ap (λ (now : Option ℤ). closes s.job.bound && is_above now None) (unmarked s cuts) ∙ never_due (closes s.job.bound);
+  first = ap (λ (now : Option ℤ). closes s.job.bound && is_above now None) (unmarked s cuts) ∙ and_false (closes s.job.bound);
   next = next_due s cuts;
 }
 
@@ -216,7 +213,7 @@ due_quiet quiet s cuts e proper none =
     let same = no_line parts (cuts e) (cuts (e + 1)) (is_next_if s cuts e (proper e (omega arith))).within none in
     let now : watermark_at s cuts (e + 1) ≡ watermark_at s cuts e = quiet s.job.bound parts (cuts_of cuts) e same in
     next_due s cuts e ∙ ap (λ (mark : Option ℤ). closes s.job.bound && is_above mark (watermark_at s cuts e)) now
-    ∙ ap (λ (b : Bool). closes s.job.bound && b) (never_above (watermark_at s cuts e)) ∙ never_due (closes s.job.bound)
+    ∙ ap (λ (b : Bool). closes s.job.bound && b) (never_above (watermark_at s cuts e)) ∙ and_false (closes s.job.bound)
 
 end_at : (parts : List Part) (ends : Ends) (i : ℕ) (end : PartEnd) → AreEnds parts ends → slice_get ends i ≡ Some end → IsEndAt parts i end
 end_at [] [] i end are there = cc

@@ -1,6 +1,6 @@
 -- Times that were seen are times of lines, and watermarks can be printed.
 use Rattle.std.proofs.Common.{◌<◌, ◌≤◌, ◌+◌, ◌^◌, [], ◌∷◌, ℕ, zero, suc, ℤ, List, Option, Some, None, Result, Ok, Err, Bool, true, false, subst, arith, map, length}
-use Rattle.std.specs.Prelude.{All, IfOk, IfSome, slice_get, option_and_then, ◌==◌, ◌-ℤ◌, if◌then◌else◌}
+use Rattle.std.specs.Prelude.{All, IfOk, IfSome, slice_get, option_and_then, ◌==◌, if◌then◌else◌}
 use Rattle.std.specs.Option.{ForSome}
 use Rattle.std.specs.List.{cons_option}
 use Rattle.std.proofs.lemmas.Int.{ints}
@@ -24,6 +24,7 @@ use Rattle.ssq_meaning.specs.Times.{Delay, delay_of, delays, delays_from, earlie
 use Rattle.ssq_meaning.specs.Feeding.{layout_at, read_at, time_if, time_at, time_in}
 use Rattle.ssq_meaning.specs.Epochs.{seen, time_between, time_of_stream}
 use Rattle.ssq_water.specs.Water.{IsDelay}
+use Rattle.ssq_water.proofs.Marks.{mark_printed}
 use Rattle.ssq_plans.specs.declared.seen.SeenBy.{SeenBy}
 use Rattle.ssq_plans.specs.Records.{IsSeen}
 use Rattle.ssq_course.specs.Setting.{parts_in, cuts_of}
@@ -104,10 +105,6 @@ delays_held at (stream ∷ streams) all =
     first : (delay : Option ℤ) (rest : List Delay) → IfSome delay IsDelay → All (λ (stream : Delay). IsDelay stream.1) rest → All (λ (stream : Delay). IsDelay stream.1) (cons_option (delay_of at delay) rest)
     first None rest is held = held
     first (Some delay) rest is held = All-cons (λ (stream : Delay). IsDelay stream.1) (at, delay) rest is held
-
--- a time of a line less a delay can be printed
-mark_printed : (t delay : ℤ) → IsLineTime t → IsDelay delay → IsStampTime (t -ℤ delay)
-mark_printed t delay line is = (grind (arith, ints, line, is), grind (arith, ints, line, is))
 
 of_mark : (t : Option ℤ) (delay : ℤ) → IsTime t → IsDelay delay → IsMark (less_delay t delay)
 of_mark None delay is held = tt

@@ -1,12 +1,12 @@
 -- What an opening found is the job's, and a round begins on it.
 use Rattle.std.proofs.Common.{◌≡◌, ◌⊎◌, ◌<◌, ◌≤◌, ◌+◌, [], ◌∷◌, ℕ, suc, List, Option, Some, None, Bool, true, false, refl, ap, sym, ◌∙◌, inl, inr, subst, arith, length, nat_lt, get_or}
-use Rattle.std.specs.Prelude.{IfSome, IsSome, slice_get}
+use Rattle.std.specs.Prelude.{IfSome, slice_get}
 use Rattle.std.proofs.lemmas.Bool.{ltb-true, ltb-false, lt-ltb}
 use Rattle.std.proofs.lemmas.List.{length-map}
 use Rattle.std.proofs.lemmas.Option.{slice_get_cases}
 use Rattle.ssq_outside.specs.declared.name.Name.TheVariants as name
-use Rattle.ssq_outside.specs.Files.{Content, Files, files_of}
-use Rattle.ssq_outside.specs.History.{History, files_now}
+use Rattle.ssq_outside.specs.Files.{Files}
+use Rattle.ssq_outside.specs.History.{files_now}
 use Rattle.ssq_shape.specs.declared.bound.Bound.{Bound}
 use Rattle.ssq_plans.specs.declared.part.PartEnd.{PartEnd}
 use Rattle.ssq_plans.specs.declared.plan.Plan.{Plan}
@@ -16,7 +16,8 @@ use Rattle.ssq_meaning.specs.Parts.{Part}
 use Rattle.ssq_store.specs.declared.store.Store.{Store}
 use Rattle.ssq_core.specs.Course.{Ends, Cuts, Job, truth, plan_of, commit_of}
 use Rattle.ssq_core.specs.Machine.{Desk, opened}
-use Rattle.ssq_core.specs.Settled.{IsSettledAs}
+use Rattle.ssq_core.proofs.Files.{true_there_by}
+use Rattle.ssq_core.proofs.Settling.{settled_files}
 use Rattle.ssq_course.specs.Setting.{Setting, parts_in, keeping_of, state_at, job_of}
 use Rattle.ssq_task.specs.Reducing.{IsIndexed}
 use Rattle.ssq_open.specs.declared.wanted.Lens.{Lens}
@@ -40,21 +41,17 @@ use Rattle.ssq_terms.proofs.Dealing.{AreEnds, cut_ends}
 
 -- ---- what was found
 
-true_there : (c : Content) (bytes : List ℕ) → (c ≡ None) ⊎ (c ≡ Some bytes) → IsSome c → c ≡ Some bytes
-true_there c bytes (inl none) there = cc
-true_there c bytes (inr is) there = is
-
 module _ (s : Sought) (job : Job) (files : Files) (d : Desk) (w : IsWantedJob s job) (op : opened job files d) where
   -- a plan that a file spells is the job's
   plan_is : (e : ℕ) (p : Plan) → e < d.planned → IsThePlan files e p → p ≡ plan_of (job.course d.cuts) e
   plan_is e p less is =
-      let text = true_there (files (name.Plan e)) (truth (job.course d.cuts) (name.Plan e)) (op.0.are_true (name.Plan e)) (op.0.needed (name.Plan e) (lt-ltb e d.planned less)) in
+      let text = true_there_by (files (name.Plan e)) (truth (job.course d.cuts) (name.Plan e)) (op.0.are_true (name.Plan e)) (op.0.needed (name.Plan e) (lt-ltb e d.planned less)) in
       sym (is.only (plan_of (job.course d.cuts) e) (record { canonical = w.plans d.cuts d.planned e op.1 op.0.reached.few less; text = text }))
 
   -- and so is a commit
   commit_is : (e : ℕ) (c : Commit) → e < d.committed → IsTheCommit files e c → c ≡ commit_of (job.course d.cuts) e
   commit_is e c less is =
-      let text = true_there (files (name.Commit e)) (truth (job.course d.cuts) (name.Commit e)) (op.0.are_true (name.Commit e)) (op.0.needed (name.Commit e) (lt-ltb e d.committed less)) in
+      let text = true_there_by (files (name.Commit e)) (truth (job.course d.cuts) (name.Commit e)) (op.0.are_true (name.Commit e)) (op.0.needed (name.Commit e) (lt-ltb e d.committed less)) in
       let planned : e < d.planned = omega (arith, less, op.0.reached.planned_first) in
       sym (is.only (commit_of (job.course d.cuts) e) (record { canonical = w.commits d.cuts d.planned e op.1 op.0.reached.few planned; text = text }))
 
@@ -63,9 +60,6 @@ module _ (s : Sought) (job : Job) (files : Files) (d : Desk) (w : IsWantedJob s 
   seen_is k seen count (by_commit last c next is same) =
       let own = commit_is last c (omega (arith, count, next)) is in
       inr (same ∙ ap (λ (c : Commit). c.seen) own ∙ ap (λ (n : ℕ). (job.course d.cuts).seen n) (sym next))
-
-files_settled : (now : History) (files : Files) → IsSettledAs now files → files_now now ≡ files
-files_settled now files settled = ap files_of settled.is
 
 -- with the files that stand where what was found passed
 kept_found : (s : Sought) (job : Job) (files : Files) (found : Opened) → IsWantedJob s job → Passes s files found → (of : IsDeskOf s job files found) → IsJobsFound s job files found of
@@ -76,7 +70,7 @@ kept_found s job files found w passes of = record {
 
 pub found_is : FoundIsJobs
 found_is s job files now found w (kept passes settled) of =
-    kept_found s job (files_now now) found w (subst (λ (f : Files). Passes s f found) (sym (files_settled now files settled)) passes) of
+    kept_found s job (files_now now) found w (subst (λ (f : Files). Passes s f found) (sym (settled_files now files settled)) passes) of
 found_is s job files now found w (begun empty first settled) of = record {
   plans = λ e default less. absurd (omega (arith, less, ap length first.plans));
   seen = inl (first.committed, first.seen);

@@ -1,18 +1,19 @@
 -- What the parts feed, and what the partitions show.
-use Rattle.std.proofs.Common.{◌≡◌, ◌≤◌, ◌-◌, ◌==◌, ◌++◌, [], ◌∷◌, ℕ, List, refl, ap, sym, ◌∙◌, arith, map, take, drop}
+use Rattle.std.proofs.Common.{◌-◌, ◌==◌, ◌++◌, [], ◌∷◌, List, refl, ap, sym, ◌∙◌, map}
 use Rattle.std.specs.List.{flat_map, enumerate_from}
 use Rattle.std.proofs.lemmas.List.Elements.{filter-append}
 use Rattle.std.proofs.lemmas.List.Sorted.{length_permutation}
 use Rattle.ssq_value.specs.Key.{keys_of}
 use Rattle.ssq_route.specs.Place.{place_of}
 use Rattle.ssq_meaning.specs.FedRows.{FedRow}
-use Rattle.ssq_meaning.specs.Meaning.{Line, lines_between}
+use Rattle.ssq_meaning.specs.Meaning.{Line}
 use Rattle.ssq_meaning.specs.Cut.{of_parts}
 use Rattle.ssq_meaning.specs.Times.{greatest}
 use Rattle.ssq_meaning.specs.Feeding.{fed_at, fault_at, time_at, first_of_all, fed_in}
 use Rattle.ssq_meaning.specs.Epochs.{joined, fed_between, out}
 use Rattle.ssq_course.specs.Setting.{parts_in, cuts_of}
 use Rattle.ssq_course.specs.Laws.{PartitionsShowRows as ShowTogether}
+use Rattle.ssq_course.proofs.Causal.{no_lines}
 use Rattle.ssq_terms.specs.Rows.{bucket_in, PartsFeedPartitions, PartsWithoutLinesAreQuiet, PartitionsShowRows, PartitionsCountRows}
 
 pub parts_feed : PartsFeedPartitions
@@ -23,9 +24,6 @@ parts_feed query epoch (part ∷ parts) (from ∷ froms) [] partitions p = refl
 parts_feed query epoch (part ∷ parts) (from ∷ froms) (to ∷ tos) partitions p =
     ap (λ (rows : List FedRow). bucket_in query epoch partitions p part from to ++ rows) (parts_feed query epoch parts froms tos partitions p)
     ∙ sym (filter-append (λ (row : FedRow). place_of (keys_of row.key) partitions == p) (fed_in query epoch part from to) (fed_between query epoch parts froms tos))
-
-no_lines : (from to : ℕ) (lines : List Line) → to ≤ from → lines_between from to lines ≡ []
-no_lines from to lines le = ap (λ (m : ℕ). take m (drop from lines)) (let none : to - from ≡ 0 = omega (arith, le) in none)
 
 pub are_quiet : PartsWithoutLinesAreQuiet
 are_quiet query part from to le =

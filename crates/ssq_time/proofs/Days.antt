@@ -9,7 +9,7 @@ use Rattle.jiff_core.proofs.MarchLemmas.{day_count-early}
 use Rattle.jiff_core.proofs.DateLemmas.{days_from_civil-day}
 use Rattle.ssq_time.specs.Time.{last_begun, year_of, month_of, day_in_month}
 
-int_le-true : (a b : ℤ) → a ≤ℤ b → int_le a b ≡ true
+pub int_le-true : (a b : ℤ) → a ≤ℤ b → int_le a b ≡ true
 int_le-true a b h = grind (arith, ints)
 
 int_le-false : (a b : ℤ) → b <ℤ a → int_le a b ≡ false

@@ -1,8 +1,8 @@
 pub mod Ascii
-mod Days
+pub mod Days
 mod Parts
 pub mod Printed
 pub mod Readback
 pub mod Signed
 mod Spans
-mod Steps
+pub mod Steps

@@ -14,7 +14,7 @@ Grows old new n = (q : Name) → is_among new q ≡ (is_among old q || same_name
 pub grows : (names : List Name) (i : ℕ) (d : Name) → i < length names → Grows (take i names) (take (i + 1) names) (get_or names i d)
 grows names i d less q = list_any_more (λ n. same_name n q) names i d less
 
-or_false : (a b : Bool) → b ≡ false → (a || b) ≡ a
+pub or_false : (a b : Bool) → b ≡ false → (a || b) ≡ a
 or_false true b none = refl
 or_false false b none = none
 

@@ -61,7 +61,7 @@ counted old new q p v highest (Some f) more this less is = by (nat_lt f v) refl
 other_partition : (p q v s : ℕ) → (q ≡ p → ⊥) → (q == p && v == s) ≡ false
 other_partition p q v s other = grind (arith, rules)
 
-other_version : (p q v s : ℕ) → s < v → (q == p && v == s) ≡ false
+pub other_version : (p q v s : ℕ) → s < v → (q == p && v == s) ≡ false
 other_version p q v s less = grind (arith, rules)
 
 pub of_another : (p q v s : ℕ) → (q ≡ p → ⊥) → same_name (name.Snapshot q v) (name.Snapshot p s) ≡ false

@@ -8,6 +8,7 @@ use Rattle.ssq_outside.specs.declared.name.Name.TheVariants as name
 use Rattle.ssq_outside.specs.Files.{same_name}
 use Rattle.ssq_upkeep.specs.Upkeep.{is_among, IsDue, IsNext, Goes}
 use Rattle.ssq_upkeep.proofs.Among.{version_is}
+use Rattle.ssq_upkeep.proofs.Floors.{other_version}
 
 -- each of these names is among those
 abbrev pub AreIn : List Name → List Name → Type 0
@@ -43,9 +44,6 @@ pub record LeavesOut (q : Name) (names left : List Name) : Type 0 where
   pub fewer : AreIn left names
   pub others : (other : Name) → same_name other q ≡ false → is_among names other ≡ true → is_among left other ≡ true
 
-apart : (p q v s : ℕ) → s < v → (q == p && v == s) ≡ false
-apart p q v s less = grind (arith, rules)
-
 partitions_are : (p q v w : ℕ) → (p == q && v == w) ≡ true → p ≡ q
 partitions_are p q v w is = grind (arith, rules)
 
@@ -71,7 +69,7 @@ due_before_drop names left settled kept partitions p last q v goes less fewer du
           let one = version_is p may.p n may.v here in
           let of = sym (partitions_are p may.p n may.v here) in
           let below = snapshot.1 in
-          let away : same_name (name.Snapshot may.p may.s) q ≡ false = ap (λ (x : Name). same_name (name.Snapshot may.p may.s) x) snapshot.0 ∙ apart may.p may.p may.s may.v below in
+          let away : same_name (name.Snapshot may.p may.s) q ≡ false = ap (λ (x : Name). same_name (name.Snapshot may.p may.s) x) snapshot.0 ∙ other_version may.p may.p may.s may.v below in
           let there = subst (λ k. is_among kept (name.Snapshot k may.s) ≡ true) of (fewer.others (name.Snapshot may.p may.s) away may.snapshot) in
           true≢false (sym may.acknowledged ∙ due.stays may.s (omega (arith, low, one, below)) there))
     ])

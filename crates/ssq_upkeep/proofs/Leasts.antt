@@ -149,10 +149,10 @@ snapshot_goes settled p last v f floor below = record {
 delta_numbers : (p v q w : ℕ) → name.Delta p v ≡ name.Delta q w → (p ≡ q) × (v ≡ w)
 delta_numbers p v q w is = (cc, cc)
 
-snapshot_numbers : (p v q w : ℕ) → name.Snapshot p v ≡ name.Snapshot q w → (p ≡ q) × (v ≡ w)
+pub snapshot_numbers : (p v q w : ℕ) → name.Snapshot p v ≡ name.Snapshot q w → (p ≡ q) × (v ≡ w)
 snapshot_numbers p v q w is = (cc, cc)
 
-apart : (p v q w : ℕ) → name.Delta p v ≡ name.Snapshot q w → ⊥
+pub apart : (p v q w : ℕ) → name.Delta p v ≡ name.Snapshot q w → ⊥
 apart p v q w is = cc
 
 -- the snapshot that lets a name go is of its partition, and old

@@ -1,4 +1,4 @@
-mod Among
+pub mod Among
 mod Floors
 pub mod Lasting
-mod Leasts
+pub mod Leasts

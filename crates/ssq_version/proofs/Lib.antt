@@ -8,7 +8,7 @@ pub mod Leading
 pub mod LastSaid
 mod Listing
 pub mod Once
-mod Prefixes
+pub mod Prefixes
 pub mod Spelled
 mod Sorting
 mod Tables

@@ -9,7 +9,7 @@ use Rattle.ssq_version.specs.State.{by_bytes, Ascends, begins_with, front_with, 
 use Rattle.ssq_version.proofs.Values.{by_case}
 
 -- the same number in front
-same_number : (x : ℕ) → (x == x) ≡ true
+pub same_number : (x : ℕ) → (x == x) ≡ true
 same_number x = grind arith
 
 equal_is : (x y : ℕ) → (x == y) ≡ true → x ≡ y

@@ -46,7 +46,7 @@ pub keys_said : (state : State) → keys_of (said_of state) ≡ keys_of state
 keys_said [] = refl
 keys_said (e ∷ state) = ap (λ (ks : List (List ℕ)). e.0 ∷ ks) (keys_said state)
 
-length_said : (state : State) → length (said_of state) ≡ length state
+pub length_said : (state : State) → length (said_of state) ≡ length state
 length_said [] = refl
 length_said (e ∷ state) = ap suc (length_said state)
 

@@ -3,9 +3,10 @@ use Rattle.ssq_outside.specs.Files.{Files}
 use Rattle.ssq_outside.specs.History.{files_now}
 use Rattle.ssq_outside.specs.declared.name.Name.TheVariants as name
 use Rattle.ssq_plans.specs.Records.{IsCommit, commit_text}
+use Rattle.ssq_store.proofs.Making.{if_some as of_some}
 use Rattle.ssq_open.specs.Epochs.{is_own}
 use Rattle.ssq_open.specs.Spelled.{IsTheCommit}
-use Rattle.ssq_open.proofs.Finding.{of_none, of_some}
+use Rattle.ssq_open.proofs.Finding.{of_none}
 use Rattle.ssq_open.proofs.Planning.{fails}
 use Rattle.ssq_open.proofs.commits.own_commit.Goals as goal
 

@@ -4,9 +4,10 @@ use Rattle.ssq_outside.specs.Files.{Files}
 use Rattle.ssq_outside.specs.History.{files_now}
 use Rattle.ssq_plans.specs.declared.meta.Meta.{Meta}
 use Rattle.ssq_plans.specs.Records.{IsMetaRecord}
+use Rattle.ssq_store.proofs.Making.{if_some as of_some}
 use Rattle.ssq_open.specs.Looking.{QueryDiffers}
 use Rattle.ssq_open.specs.Spelled.{IsTheMeta}
-use Rattle.ssq_open.proofs.Finding.{of_none, of_some}
+use Rattle.ssq_open.proofs.Finding.{of_none}
 use Rattle.ssq_open.proofs.Looks.{difference_rises, query_refused}
 use Rattle.ssq_open.proofs.job.kept_query.Goals as goal
 

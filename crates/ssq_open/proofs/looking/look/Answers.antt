@@ -2,8 +2,9 @@ use Rattle.std.proofs.Common.{subst, sym}
 use Rattle.std.proofs.lemmas.Result.{err_from_is_err_and}
 use Rattle.ssq_outside.specs.Files.{Files, IsEmpty, AreNames}
 use Rattle.ssq_outside.specs.History.{History, files_now}
+use Rattle.ssq_store.proofs.Making.{if_some as of_some}
 use Rattle.ssq_open.specs.Looking.{query_of, Denies, Holds}
-use Rattle.ssq_open.proofs.Finding.{of_none, of_some}
+use Rattle.ssq_open.proofs.Finding.{of_none}
 use Rattle.ssq_open.proofs.Standings.{look_outside}
 use Rattle.ssq_open.proofs.looking.look.Goals as goal
 

@@ -1,11 +1,12 @@
 use Rattle.std.proofs.Common.{◌≡◌, ◌∙◌, refl, subst, sym, ap}
 use Rattle.ssq_outside.specs.Files.{Files, IsEmpty, AreNames, files_of}
 use Rattle.ssq_outside.specs.History.{LeavesOnly, had_now, files_now}
+use Rattle.ssq_store.proofs.Making.{if_some as of_some}
 use Rattle.ssq_core.specs.Settled.{IsSettledAs}
 use Rattle.ssq_open.specs.Sought.{sought}
 use Rattle.ssq_open.specs.Opening.{IsBegun, IsImageOpening, SyncedSince, unsynced, synced}
 use Rattle.ssq_open.proofs.Opens.{settled_since, files_since, sync_leaves, begin_leaves, same_leaves, open_begun, refused_begun, open_kept, refused_kept, on_ok, on_err, sync_images, synced_still, synced_begun}
-use Rattle.ssq_open.proofs.Finding.{of_none, of_some}
+use Rattle.ssq_open.proofs.Finding.{of_none}
 use Rattle.ssq_open.proofs.opening.open_wanted.Given.{Over}
 use Rattle.ssq_open.proofs.opening.open_wanted.Goals as goal
 use Rattle.ssq_open.proofs.opening.open_wanted.Goals.{After-begin, After-kept, After-names_in}

@@ -2,9 +2,10 @@ use Rattle.std.proofs.Common.{subst}
 use Rattle.std.proofs.lemmas.Result.{err_from_is_err_and}
 use Rattle.ssq_outside.specs.Files.{Files, IsEmpty, AreNames}
 use Rattle.ssq_outside.specs.History.{History, files_now}
+use Rattle.ssq_store.proofs.Making.{if_some as of_some}
 use Rattle.ssq_open.specs.Looking.{query_of, MetaRefuses}
 use Rattle.ssq_open.specs.Spelled.{IsTheMeta}
-use Rattle.ssq_open.proofs.Finding.{of_none, of_some}
+use Rattle.ssq_open.proofs.Finding.{of_none}
 use Rattle.ssq_open.proofs.Standings.{record_outside}
 use Rattle.ssq_open.proofs.owned.own_names.Goals as goal
 

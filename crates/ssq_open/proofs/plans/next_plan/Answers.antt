@@ -3,9 +3,10 @@ use Rattle.ssq_outside.specs.Files.{Files}
 use Rattle.ssq_outside.specs.History.{files_now}
 use Rattle.ssq_outside.specs.declared.name.Name.TheVariants as name
 use Rattle.ssq_plans.specs.Records.{IsPlan, plan_text}
+use Rattle.ssq_store.proofs.Making.{if_some as of_some}
 use Rattle.ssq_open.specs.Epochs.{is_next}
 use Rattle.ssq_open.specs.Spelled.{IsThePlan}
-use Rattle.ssq_open.proofs.Finding.{of_none, of_some}
+use Rattle.ssq_open.proofs.Finding.{of_none}
 use Rattle.ssq_open.proofs.Planning.{fails, plan_damaged}
 use Rattle.ssq_open.proofs.plans.next_plan.Goals as goal
 

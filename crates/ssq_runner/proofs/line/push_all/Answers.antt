@@ -1,7 +1,8 @@
 use Rattle.std.proofs.Common.{◌∙◌, take, drop, sym}
 use Rattle.std.proofs.lemmas.List.{take-append-drop}
-use Rattle.ssq_runner.proofs.Cutting.{text_start, text_next, on_err}
+use Rattle.ssq_runner.proofs.Cutting.{text_start, text_next}
 use Rattle.ssq_runner.proofs.line.push_all.Goals as goal
+use Rattle.ssq_drive.proofs.Ending.{on_err}
 
 pub loop-one-init : goal.loop-one-init
 loop-one-init c = text_start c.args.text.now.items

@@ -3,9 +3,10 @@ use Rattle.ssq_version.specs.State.{AreNews, layered}
 use Rattle.ssq_version.specs.Text.{delta_text, shown}
 use Rattle.ssq_version.proofs.Spelled.{kept_is_entries}
 use Rattle.ssq_version.proofs.WhatIsNew.{between_news}
-use Rattle.ssq_store.proofs.Layers.{is_read, is_there, some_once, told_change}
+use Rattle.ssq_store.proofs.Layers.{is_read, is_there, told_change}
 use Rattle.ssq_store.proofs.Making.{if_some}
 use Rattle.ssq_store.proofs.listed.change_in.Goals as goal
+use Rattle.ssq_store.proofs.Exact.{some_once}
 
 pub returns-in_default-clause-none : goal.returns-in_default-clause-none
 returns-in_default-clause-none c new is =
