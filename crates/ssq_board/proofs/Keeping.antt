@@ -3,6 +3,7 @@ use Rattle.std.proofs.Common.{◌≡◌, ◌⊎◌, ◌<◌, ◌≤◌, ◌+◌,
 use Rattle.std.proofs.lemmas.Bool.{cases_lt, and_left, or_left, or_right}
 use Rattle.std.proofs.lemmas.Bool.Decides.{nat_tests}
 use Rattle.std.proofs.lemmas.List.Folds.{list_any-append}
+use mathlib.Core.Bool.{or-false}
 use Rattle.ssq_outside.specs.declared.name.Name.{Name}
 use Rattle.ssq_outside.specs.declared.name.Name.TheVariants as name
 use Rattle.ssq_outside.specs.declared.gate.TaskId.{TaskId}
@@ -102,12 +103,8 @@ shelves_commit last committed e stop now s d is runs k = shelves_filed last comm
 
 -- ---- names are synced
 
-pub or_end : (a : Bool) → (a || false) ≡ a
-or_end true = refl
-or_end false = refl
-
 pub among_end : (names : List Name) (q : Name) → is_among (names ++ []) q ≡ is_among names q
-among_end names q = list_any-append (λ n. same_name n q) names [] ∙ or_end (is_among names q)
+among_end names q = list_any-append (λ n. same_name n q) names [] ∙ or-false (is_among names q)
 
 -- what no crash can take away is there
 pub sure_there : (last : Option ℕ) (committed : ℕ) (stop : Option Cause) (s : Shelf) (d : Desk) → Shelves last committed stop s d → (q : Name) → is_state q ≡ true → d.sure q ≡ true → d.there q ≡ true
@@ -166,7 +163,7 @@ added_other s q r other = by (is_among (there_in s) q) refl
     by true h = ap (λ (b : Bool). is_among (s.settled ++ (if b then s.news else s.news ++ q ∷ [])) r) h
     by false h = ap (λ (b : Bool). is_among (s.settled ++ (if b then s.news else s.news ++ q ∷ [])) r) h
         ∙ among_both s.settled (s.news ++ q ∷ []) r
-        ∙ ap (λ (b : Bool). is_among s.settled r || b) (among_both s.news (q ∷ []) r ∙ or_false (is_among s.news r) (same_name q r || false) (or_end (same_name q r) ∙ other))
+        ∙ ap (λ (b : Bool). is_among s.settled r || b) (among_both s.news (q ∷ []) r ∙ or_false (is_among s.news r) (same_name q r || false) (or-false (same_name q r) ∙ other))
         ∙ sym (among_both s.settled s.news r)
 
 same_turned : (q r : Name) → same_name r q ≡ false → same_name q r ≡ false

@@ -1,7 +1,7 @@
 -- On one thread something can always be done, as long as the round is not over and not stopped.
 use Rattle.std.proofs.Common.{◌≡◌, ◌⊎◌, ◌+◌, ◌&&◌, ◌||◌, not, nat_lt, ℕ, zero, suc, Bool, true, false, true≢false, List, [], ◌∷◌, map, length, set, replicate, Option, Some, None, if◌then◌else◌, sym, refl, ap, ◌∙◌, subst, inl, inr, arith, le-ltb}
 use Rattle.std.specs.List.{list_all, list_any}
-use Rattle.std.proofs.lemmas.Bool.{or_parts}
+use Rattle.std.proofs.lemmas.Bool.{or_parts, and_parts}
 use borrow.Author.Tests.{not-true}
 use mathlib.Core.Option.{some, some-ne-none}
 use lib.ListN.{get_elem?}
@@ -47,13 +47,9 @@ fine_all : (ps : List Place) → list_all is_here ps ≡ true → fault_in ps �
 fine_all [] h f = refl
 fine_all (p ∷ ps) h f =
     let n = no_fault (fault_at p) (fault_in ps) f in
-    let b = both (is_here p) (list_all is_here ps) h in
+    let b = and_parts (is_here p) (list_all is_here ps) h in
     (λ i. one p b.0 n.0 i && fine_all ps b.1 n.1 i)
   where
-    both : (a b : Bool) → (a && b) ≡ true → (a ≡ true) × (b ≡ true)
-    both true b h = (refl, h)
-    both false b h = absurd (true≢false (sym h))
-
     one : (p : Place) → is_here p ≡ true → fault_at p ≡ None → is_fine p ≡ true
     one place.Rests h f = refl
     one place.Waits h f = absurd (true≢false (sym h))

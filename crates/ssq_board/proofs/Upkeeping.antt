@@ -3,6 +3,7 @@
 use Rattle.std.proofs.Common.{◌≡◌, ◌⊎◌, ◌<◌, ◌≤◌, ◌+◌, ◌++◌, ◌==◌, ◌&&◌, ◌||◌, not, nat_lt, ℕ, Bool, true, false, true≢false, List, [], ◌∷◌, Option, Some, None, if◌then◌else◌, sym, refl, ap, ◌∙◌, subst, inl, inr, arith, ltb-true}
 use Rattle.std.proofs.lemmas.Bool.Decides.{nat_tests}
 use Rattle.std.proofs.lemmas.Bool.{or_left, or_right, and_left, and_parts}
+use mathlib.Core.Bool.{and-false}
 use borrow.Author.Tests.{not-true}
 use mathlib.Core.Option.{some}
 use Rattle.ssq_outside.specs.declared.name.Name.{Name}
@@ -167,10 +168,6 @@ module _ (p v : ℕ) (names : List Name) where
 
 -- ---- what is being made no more
 
-pub and_false : (a : Bool) → (a && false) ≡ false
-and_false true = refl
-and_false false = refl
-
 swapped : (a b : Bool) → (a && b) ≡ (b && a)
 swapped true true = refl
 swapped true false = refl
@@ -188,8 +185,8 @@ without_is q r (n ∷ ns) = by (same_name n q) refl (same_name n r) refl (withou
         → is_among (if not (same_name n q) then n ∷ without q ns else without q ns) r ≡ ((same_name n r || is_among ns r) && not (same_name r q))
     by true hb true ha ih =
         let gone : same_name r q ≡ true = sym (as_r ha) ∙ hb in
-        ap (λ (x : Bool). is_among (if not x then n ∷ without q ns else without q ns) r) hb ∙ ih ∙ ap (λ (x : Bool). is_among ns r && not x) gone ∙ and_false (is_among ns r)
-        ∙ sym (ap (λ (x : Bool). (same_name n r || is_among ns r) && not x) gone ∙ and_false (same_name n r || is_among ns r))
+        ap (λ (x : Bool). is_among (if not x then n ∷ without q ns else without q ns) r) hb ∙ ih ∙ ap (λ (x : Bool). is_among ns r && not x) gone ∙ and-false (is_among ns r)
+        ∙ sym (ap (λ (x : Bool). (same_name n r || is_among ns r) && not x) gone ∙ and-false (same_name n r || is_among ns r))
     by true hb false ha ih =
         ap (λ (x : Bool). is_among (if not x then n ∷ without q ns else without q ns) r) hb ∙ ih ∙ ap (λ (x : Bool). (x || is_among ns r) && not (same_name r q)) (sym ha)
     by false hb true ha ih =

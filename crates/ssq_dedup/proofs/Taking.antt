@@ -5,6 +5,7 @@ use Rattle.std.specs.BTreeMap.{is_at}
 use Rattle.std.specs.List.{AllByRecursion}
 use Rattle.std.proofs.lemmas.List.{append_assoc, append-nil, map-append}
 use Rattle.std.proofs.lemmas.List.Elements.{All-get_or, All-push}
+use mathlib.Core.Bool.{or-false}
 use Rattle.ssq_time.specs.Time.{IsStampTime}
 use Rattle.ssq_value.specs.Kind.{IfTime}
 use Rattle.ssq_value.specs.Key.{keys_of}
@@ -19,7 +20,6 @@ use Rattle.ssq_meaning.specs.Meaning.{Values}
 use Rattle.ssq_meaning.proofs.Coding.{AreApart}
 use Rattle.ssq_meaning.proofs.Counted.{has_key-append}
 use Rattle.ssq_meaning.proofs.Keys.{same_back, same_is}
-use Rattle.ssq_meaning.proofs.Pairing.{or_false}
 use Rattle.ssq_step.specs.Indexing.{IsReadableKey}
 use Rattle.ssq_step.proofs.ByBytes.{same_bytes, spelled_key}
 use Rattle.ssq_step.proofs.Lists.{one_more}
@@ -88,7 +88,7 @@ takes_by state row has_row is_kept has kept before after shown more takes =
     subst (λ b. TakesIf b row before after shown more) known takes
 
 has_more : (done : List FedRow) (row : FedRow) (key : Values) → has_key (done ++ row ∷ []) key ≡ (has_key done key || is_same key row.key)
-has_more done row key = has_key-append done (row ∷ []) key ∙ ap (λ b. has_key done key || b) (or_false (is_same key row.key))
+has_more done row key = has_key-append done (row ∷ []) key ∙ ap (λ b. has_key done key || b) (or-false (is_same key row.key))
 
 -- the keys of the rows so far, with that of one row more
 pub keys_more : (rows : List FedRow) (at : ℕ) (row : FedRow) → at < length rows → row ≡ get_or rows at row → (old new : Values → Bool) → ((key : Values) → new key ≡ (is_same row.key key || old key))

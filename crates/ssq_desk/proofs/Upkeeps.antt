@@ -2,6 +2,7 @@
 use Rattle.std.proofs.Common.{◌≡◌, ◌<◌, ◌≤◌, ◌+◌, ◌^◌, ◌++◌, ◌||◌, [], ◌∷◌, ℕ, Bool, false, true, List, length, Option, Some, None, Result, Ok, Err, inl, inr, refl, sym, ap, ◌∙◌, subst, arith}
 use Rattle.std.specs.Prelude.{IfErr, IfOk, IfSome}
 use Rattle.std.proofs.lemmas.List.{append-nil}
+use Rattle.std.proofs.lemmas.Bool.{or_right}
 use Rattle.ssq_outside.specs.declared.disk.DiskError.{DiskError}
 use Rattle.ssq_outside.specs.declared.disk.DiskError.TheVariants as disk_error
 use Rattle.ssq_outside.specs.declared.name.Name.{Name}
@@ -93,11 +94,7 @@ snapshot_stops reads owned s cuts e snapshot.NoMemory never key = tt
 
 -- the last of a list is among them
 among_last : (names : List Name) (q : Name) → is_among (names ++ q ∷ []) q ≡ true
-among_last names q = among_both names (q ∷ []) q ∙ or_last (is_among names q) (is_among (q ∷ []) q) (ap (λ (b : Bool). b || false) (same_name-same q))
-  where
-    or_last : (a b : Bool) → b ≡ true → (a || b) ≡ true
-    or_last true b is = refl
-    or_last false b is = is
+among_last names q = among_both names (q ∷ []) q ∙ or_right (is_among names q) (is_among (q ∷ []) q) (ap (λ (b : Bool). b || false) (same_name-same q))
 
 -- calls that change no name
 pub did_still : {D O : Type 0} (s mid new : Shown D O) → mid ≡ did s mid.disk [] → new ≡ did mid new.disk [] → new ≡ did s new.disk []

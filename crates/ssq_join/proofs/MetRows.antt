@@ -6,6 +6,7 @@ use Rattle.std.specs.List.{AllByRecursion, list_any}
 use Rattle.std.proofs.lemmas.Bool.{and_right}
 use Rattle.std.proofs.lemmas.List.{append_assoc, append-nil}
 use Rattle.std.proofs.lemmas.List.Folds.{list_any-append}
+use mathlib.Core.Bool.{and-true}
 use Rattle.ssq_version.specs.State.{by_bytes}
 use Rattle.ssq_version.proofs.Values.{one_key}
 use Rattle.ssq_shape.specs.declared.bound.Joining.{Joining}
@@ -77,11 +78,7 @@ touched_own : (joining : Joining) (key : List ℕ) (row : FedRow) → is_at (by_
 touched_own joining key row at [] = refl
 touched_own joining key row at (other ∷ others) =
     (λ i. (is_partner joining row other && (at i || is_at (by_bytes key) (row_key other))) || touched_own joining key row at others i)
-    ∙ ap (λ b. b || has_partner joining others row) (and_true (is_partner joining row other))
-  where
-    and_true : (b : Bool) → (b && true) ≡ b
-    and_true true = refl
-    and_true false = refl
+    ∙ ap (λ b. b || has_partner joining others row) (and-true (is_partner joining row other))
 
 -- of another one
 touched_none : (joining : Joining) (key : List ℕ) (row : FedRow) → is_at (by_bytes key) (row_key row) ≡ false → (others : List FedRow) → AreElsewhere key others → touched_by joining key row others ≡ false

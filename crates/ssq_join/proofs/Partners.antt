@@ -4,6 +4,7 @@ use Rattle.std.specs.Prelude.{◌&&◌, ◌||◌, All, not, if◌then◌else◌}
 use Rattle.std.specs.BTreeMap.{is_at}
 use Rattle.std.specs.List.{list_any}
 use Rattle.std.proofs.lemmas.List.Elements.{All-append}
+use mathlib.Core.Bool.{or-false}
 use Rattle.ssq_value.specs.declared.value.Value.{Value}
 use Rattle.ssq_version.specs.State.{by_bytes}
 use Rattle.ssq_shape.specs.declared.bound.Bound.{Bound}
@@ -17,7 +18,6 @@ use Rattle.ssq_meaning.specs.Group.{is_same}
 use Rattle.ssq_meaning.specs.Join.{Considered, is_candidate, is_left, is_near, is_partner, join_time, row_key}
 use Rattle.ssq_meaning.specs.JoinLaws.{are_candidates, pair_by}
 use Rattle.ssq_meaning.proofs.Keys.{same_itself}
-use Rattle.ssq_meaning.proofs.Pairing.{or_false}
 use Rattle.ssq_join.specs.Judging.{is_met, judged_row}
 use Rattle.ssq_join.specs.Meeting.{IsOther, are_near, joined, with_candidate}
 use Rattle.ssq_join.specs.Telling.{Meets, Pair, Tells, among, considered_of}
@@ -49,7 +49,7 @@ from_left query joining left right faces met near is =
     let not_there : is_candidate joining right left ≡ false = other_way joining left right faces in (
       (λ i. here i || not_there i),
       ap (λ b. pair_by query joining b left right) (sym faces.is_left_row),
-      (λ i. (here i && is_met joining (left.values ++ right.values)) || (not_there i && is_met joining (right.values ++ left.values))) ∙ or_false (is_met joining (left.values ++ right.values)) ∙ sym is,
+      (λ i. (here i && is_met joining (left.values ++ right.values)) || (not_there i && is_met joining (right.values ++ left.values))) ∙ or-false (is_met joining (left.values ++ right.values)) ∙ sym is,
     )
 
 from_right : (query : Bound) (joining : Joining) (left right : FedRow) → Faces joining left right → right.key ≡ left.key → (met : Bool) → is_near joining.bound left.time right.time ≡ true

@@ -4,6 +4,7 @@ use Rattle.std.specs.Prelude.{◌==◌, ◌&&◌, ◌||◌, not}
 use Rattle.std.specs.List.{list_any}
 use Rattle.std.specs.Int.{w32, w64, to_be_bytes}
 use Rattle.std.proofs.lemmas.Bool.Decides.{nat_tests}
+use mathlib.Core.Bool.{or-false}
 use Rattle.ssq_value.specs.Key.{keys_of}
 use Rattle.ssq_version.specs.State.{begins_with}
 use Rattle.ssq_shape.specs.declared.bound.Joining.{Joining}
@@ -16,7 +17,6 @@ use Rattle.ssq_meaning.specs.JoinLaws.{are_candidates}
 use Rattle.ssq_meaning.specs.Meaning.{Values}
 use Rattle.ssq_meaning.proofs.Coding.{AreApart as KeysAreApart}
 use Rattle.ssq_meaning.proofs.Keys.{same_back, same_is, same_itself}
-use Rattle.ssq_meaning.proofs.Pairing.{or_false}
 use Rattle.ssq_version.proofs.Prefixes.{same_number}
 
 -- ---- beginnings
@@ -74,7 +74,7 @@ module _ (apart : KeysAreApart) (count : ℕ) where
           ≡ (((side_byte (not r) == side_byte o) && s) && near_by joining r row other)
       by true true s t n flipped nulls = refl
       by false false s t n flipped nulls = refl
-      by true false true t n flipped nulls = ap (λ b. (not b && is_near joining.bound row.time other.time) || false) none ∙ or_false (is_near joining.bound row.time other.time)
+      by true false true t n flipped nulls = ap (λ b. (not b && is_near joining.bound row.time other.time) || false) none ∙ or-false (is_near joining.bound row.time other.time)
       by true false false t n flipped nulls = refl
       by false true true t n flipped nulls = (λ i. (flipped i && not (nulls refl i)) && is_near joining.bound other.time row.time)
       by false true false t n flipped nulls = ap (λ b. (b && not n) && is_near joining.bound other.time row.time) flipped

@@ -7,6 +7,7 @@ use Rattle.std.proofs.lemmas.List.{append_assoc, append-nil}
 use Rattle.std.proofs.lemmas.List.Elements.{All-from_recursion, filter-append}
 use Rattle.std.proofs.lemmas.List.Folds.{list_any-append}
 use Rattle.std.proofs.lemmas.List.Sorted.{IsPermutation-append, IsPermutation-append_left, IsPermutation-append_right, IsPermutation-map, IsPermutation-refl, IsPermutation-sym, IsPermutation-trans}
+use mathlib.Core.Bool.{or-false}
 use Rattle.ssq_shape.specs.declared.bound.Bound.{Bound}
 use Rattle.ssq_shape.specs.declared.bound.Joining.{Joining}
 use Rattle.ssq_meaning.specs.FedRows.{FedRow}
@@ -20,7 +21,7 @@ use Rattle.ssq_meaning.proofs.Handing.{weaker}
 use Rattle.ssq_meaning.proofs.JoinEpochs.{all_found, candidate_opens, found_within}
 use Rattle.ssq_meaning.proofs.Keys.{none_pass}
 use Rattle.ssq_meaning.proofs.Nearby.{was_open}
-use Rattle.ssq_meaning.proofs.Pairing.{are_open, lefts-append, or_false, rights-append, same_partner, timely, with-append}
+use Rattle.ssq_meaning.proofs.Pairing.{are_open, lefts-append, rights-append, same_partner, timely, with-append}
 use Rattle.ssq_meaning.proofs.PairsParted.{any_there}
 use Rattle.ssq_meaning.proofs.Reordered.{permutes, reordered_append, reordered_filter}
 use Rattle.ssq_meaning.proofs.Shuffled.{filter_same, least_shuffled, middle, shown_shuffled}
@@ -77,7 +78,7 @@ module _ (query : Bound) (joining : Joining) (row : FedRow) where
           → map (pair_by query joining b row) (filter (are_candidates joining row) others) ≡ pairs_of query joining others (row ∷ []) ++ pairs_with query joining row others
       by true left =
           ap (map (pair_of query joining row))
-          (filter_same (are_candidates joining row) (is_candidate joining row) (λ other. ap (λ b. is_candidate joining row other || b) (none_of_left left other) ∙ or_false (is_candidate joining row other)) others)
+          (filter_same (are_candidates joining row) (is_candidate joining row) (λ other. ap (λ b. is_candidate joining row other || b) (none_of_left left other) ∙ or-false (is_candidate joining row other)) others)
           ∙ ap (λ l. l ++ pairs_with query joining row others) (sym (no_lefts (none_of_left left) others))
       by false right =
           ap (map (pair_by query joining false row))

@@ -8,6 +8,7 @@ use Rattle.std.proofs.lemmas.List.Concat.{flat_map-append}
 use Rattle.std.proofs.lemmas.List.Elements.{filter-append, filter_map-append, recursion_from_All}
 use Rattle.std.proofs.lemmas.List.Folds.{list_any-append}
 use Rattle.std.proofs.lemmas.List.Sorted.{IsPermutation-append, IsPermutation-append_left, IsPermutation-map, IsPermutation-trans}
+use mathlib.Core.Bool.{or-false}
 use Rattle.ssq_shape.specs.declared.bound.Bound.{Bound}
 use Rattle.ssq_shape.specs.declared.bound.Joining.{Joining}
 use Rattle.ssq_meaning.specs.FedRows.{FedRow}
@@ -45,10 +46,6 @@ module _ (query : Bound) (joining : Joining) where
 
 -- ---- rows alone
 
-pub or_false : (b : Bool) → (b || false) ≡ b
-or_false true = refl
-or_false false = refl
-
 module _ (joining : Joining) (old new : List FedRow) (before now : Option ℤ) (follows : Follows new before now) where
   pub timely : AllByRecursion (λ (row : FedRow). is_past now row.time ≡ false) new
   timely = recursion_from_All _ new follows.timely
@@ -58,7 +55,7 @@ module _ (joining : Joining) (old new : List FedRow) (before now : Option ℤ) (
   same_partner row over =
       list_any-append (is_partner joining row) old new
       ∙ ap (λ b. has_partner joining old row || b) (no_partner joining now row over new timely)
-      ∙ or_false (has_partner joining old row)
+      ∙ or-false (has_partner joining old row)
 
   module _ (bounded : IsBounded joining) where
     pub are_open : AllByRecursion (λ (row : FedRow). is_over joining now row ≡ false) new

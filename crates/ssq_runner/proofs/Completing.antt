@@ -5,6 +5,7 @@ use Rattle.std.specs.List.{sum_by}
 use Rattle.std.proofs.lemmas.Bool.{cases_lt}
 use Rattle.std.proofs.lemmas.List.{length-map, length-append}
 use Rattle.std.proofs.lemmas.List.Elements.{All-head, All-tail}
+use mathlib.Core.Bool.{and-false}
 use mathlib.Core.Option.{some, some-injective, some-ne-none}
 use lib.ListN.{get_elem?}
 use Rattle.ssq_outside.specs.History.{History, files_now}
@@ -38,7 +39,6 @@ use Rattle.ssq_logs.specs.declared.fault.LengthFault.TheVariants as length_fault
 use Rattle.ssq_logs.specs.Asked.{AreAsked, most_lines}
 use Rattle.ssq_logs.specs.Parts.{counts_in, IsFew, IsFullAt}
 use Rattle.ssq_logs.specs.Opened.{parts_of, AreLogsOf}
-use Rattle.ssq_board.proofs.Upkeeping.{and_false}
 use Rattle.ssq_terms.proofs.Dealing.{never_above}
 use Rattle.ssq_terms.proofs.Covering.{sums_within}
 use Rattle.ssq_drive.specs.declared.round.Stopped.{Stopped}
@@ -272,7 +272,7 @@ module _ {L : Type 0} (told tells : Type 0) (lines : L → List Line) (available
       let x = setting_in tells lines available answers faults b in
       let cuts = cuts_in b ends.plans in
       let mark = still_law x.job.bound (parts_in x) (offsets cuts) e (ap offsets_of same) in
-      (dues_law x cuts).next e ∙ ap (λ (now : Option ℤ). closes x.job.bound && is_above now (watermark_at x cuts e)) mark ∙ ap (λ (above : Bool). closes x.job.bound && above) (never_above (watermark_at x cuts e)) ∙ and_false (closes x.job.bound)
+      (dues_law x cuts).next e ∙ ap (λ (now : Option ℤ). closes x.job.bound && is_above now (watermark_at x cuts e)) mark ∙ ap (λ (above : Bool). closes x.job.bound && above) (never_above (watermark_at x cuts e)) ∙ and-false (closes x.job.bound)
 
   pub grows : (e n : ℕ) → e ≡ length b.found.plans + n → e ≤ length ends.plans → HasGrown (cuts_in b ends.plans) dues (map (λ (own : List Line). length own) s.lines) (length b.found.plans) e
   unfolding most

@@ -2,6 +2,7 @@
 use Rattle.std.proofs.Common.{◌≡◌, ◌≤◌, ◌+◌, Bool, true, false, true≢false, cond, not, ◌||◌, List, [], ◌∷◌, ◌++◌, length, refl, sym, ap, ◌∙◌, arith}
 use Rattle.std.specs.Prelude.{filter}
 use Rattle.std.specs.List.{list_any}
+use Rattle.std.proofs.lemmas.List.Folds.{list_any-append}
 use Rattle.ssq_shape.specs.declared.bound.Output.{Output}
 use Rattle.ssq_meaning.specs.Group.{is_same}
 use Rattle.ssq_meaning.specs.Meaning.{Values}
@@ -12,14 +13,6 @@ use Rattle.ssq_sink.specs.Table.{HasOnce, last_rows}
 -- whether a later row has its key
 abbrev is_newer : List Output → List Values → Values → Bool
 is_newer outputs later row = list_any (is_same_group outputs row) later
-
-any-append : {A : Type 0} (p : A → Bool) (xs ys : List A) → list_any p (xs ++ ys) ≡ (list_any p xs || list_any p ys)
-any-append p [] ys = refl
-any-append p (x ∷ xs) ys = or_by (p x) (list_any p (xs ++ ys)) (list_any p xs) (list_any p ys) (any-append p xs ys)
-  where
-    or_by : (b c d e : Bool) → c ≡ (d || e) → (b || c) ≡ ((b || d) || e)
-    or_by true c d e is = refl
-    or_by false c d e is = is
 
 -- a row of the first list, by whether one of the same list and one of the second list are of its key
 one_more : {A : Type 0} (own later : Bool) (row : A) (kept lasts : List A) → cond (own || later) (kept ++ lasts) (row ∷ (kept ++ lasts)) ≡ cond own kept (cond (not later) (row ∷ kept) kept) ++ lasts
@@ -36,7 +29,7 @@ pub last_rows-append : (outputs : List Output) (xs ys : List Values) → last_ro
 last_rows-append outputs [] ys = refl
 last_rows-append outputs (row ∷ xs) ys =
     let p : Values → Bool = λ one. not (is_newer outputs ys one) in
-    ap (λ any. cond any (last_rows outputs (xs ++ ys)) (row ∷ last_rows outputs (xs ++ ys))) (any-append (is_same_group outputs row) xs ys)
+    ap (λ any. cond any (last_rows outputs (xs ++ ys)) (row ∷ last_rows outputs (xs ++ ys))) (list_any-append (is_same_group outputs row) xs ys)
     ∙ ap (λ rows. cond (is_newer outputs xs row || is_newer outputs ys row) rows (row ∷ rows)) (last_rows-append outputs xs ys)
     ∙ one_more (is_newer outputs xs row) (is_newer outputs ys row) row (filter p (last_rows outputs xs)) (last_rows outputs ys)
     ∙ ap (λ rows. rows ++ last_rows outputs ys) (sym (filtered_if p (is_newer outputs xs row) row (last_rows outputs xs)))

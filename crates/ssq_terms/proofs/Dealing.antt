@@ -1,8 +1,9 @@
 -- What a desk takes for granted of the job of a setting.
 use Rattle.std.proofs.Common.{◌≡◌, ◌⊎◌, ◌<◌, ◌≤◌, ◌+◌, ◌==◌, ◌&&◌, ◌||◌, [], ◌∷◌, ℕ, zero, suc, ℤ, List, Option, Some, None, Bool, true, false, refl, ap, sym, ◌∙◌, inl, inr, subst, arith, add-one, length, nat_lt}
 use Rattle.std.specs.Prelude.{nat_le, int_le, not, slice_get, if◌then◌else◌}
-use Rattle.std.proofs.lemmas.Bool.{eqb-true, ltb-true, le-leb, lt-ltb, le-ltb, ltb-false, and_from, and_parts}
+use Rattle.std.proofs.lemmas.Bool.{eqb-true, ltb-true, le-leb, lt-ltb, le-ltb, ltb-false, and_from, and_parts, or_parts}
 use Rattle.std.proofs.lemmas.Int.{ints}
+use mathlib.Core.Bool.{and-false}
 use Rattle.ssq_plans.specs.declared.part.PartEnd.{PartEnd}
 use Rattle.ssq_shape.specs.declared.bound.Bound.{Bound}
 use Rattle.ssq_meaning.specs.Parts.{Part}
@@ -22,7 +23,6 @@ use Rattle.ssq_open.specs.Epochs.{starts}
 use Rattle.ssq_board.specs.Core.{within, next_end, next_ends, is_behind, has_line, has_line_at}
 use Rattle.ssq_board.specs.Rounds.{HasCap}
 use Rattle.ssq_logs.specs.Asked.{most_lines}
-use Rattle.ssq_board.proofs.Upkeeping.{and_false}
 use Rattle.ssq_terms.specs.Laws.{due_at, IsEndAt, TasksHaveTerms, DuesAreOfMarks, EndsAreOfParts}
 use Rattle.ssq_terms.proofs.Marks.{unmarked}
 use Rattle.ssq_terms.proofs.Starts.{AreParts, start_of_is, starts_start, found_numbers}
@@ -182,14 +182,10 @@ no_line (part ∷ parts) [] tos is none = cc
 no_line (part ∷ parts) (from ∷ froms) [] is none = cc
 no_line (part ∷ parts) (from ∷ froms) (to ∷ tos) is none =
     let goes = going part parts from to froms tos is in
-    let no = neither (nat_lt from.end to.end) (has_line froms tos) none in
+    let no = or_parts (nat_lt from.end to.end) (has_line froms tos) none in
     let same : to.end ≡ from.end = omega (arith, goes.up, ltb-false from.end to.end no.0) in
     let more = no_line parts froms tos goes.rest no.1 in
     λ i. same i ∷ more i
-  where
-    neither : (a b : Bool) → (a || b) ≡ false → (a ≡ false) × (b ≡ false)
-    neither true b is = cc
-    neither false b is = (refl, is)
 
 pub never_above : (t : Option ℤ) → is_above t t ≡ false
 never_above None = refl
@@ -202,7 +198,7 @@ next_due s cuts e =
 
 pub dues_are : DuesAreOfMarks
 dues_are s cuts = record {
-  first = ap (λ (now : Option ℤ). closes s.job.bound && is_above now None) (unmarked s cuts) ∙ and_false (closes s.job.bound);
+  first = ap (λ (now : Option ℤ). closes s.job.bound && is_above now None) (unmarked s cuts) ∙ and-false (closes s.job.bound);
   next = next_due s cuts;
 }
 
@@ -213,7 +209,7 @@ due_quiet quiet s cuts e proper none =
     let same = no_line parts (cuts e) (cuts (e + 1)) (is_next_if s cuts e (proper e (omega arith))).within none in
     let now : watermark_at s cuts (e + 1) ≡ watermark_at s cuts e = quiet s.job.bound parts (cuts_of cuts) e same in
     next_due s cuts e ∙ ap (λ (mark : Option ℤ). closes s.job.bound && is_above mark (watermark_at s cuts e)) now
-    ∙ ap (λ (b : Bool). closes s.job.bound && b) (never_above (watermark_at s cuts e)) ∙ and_false (closes s.job.bound)
+    ∙ ap (λ (b : Bool). closes s.job.bound && b) (never_above (watermark_at s cuts e)) ∙ and-false (closes s.job.bound)
 
 end_at : (parts : List Part) (ends : Ends) (i : ℕ) (end : PartEnd) → AreEnds parts ends → slice_get ends i ≡ Some end → IsEndAt parts i end
 end_at [] [] i end are there = cc
