@@ -83,7 +83,7 @@ fn faults_of_logs(rt: HostRuntime) -> Result<(), Fail> {
 }
 
 /// What opening a part answers, if it is there.
-fn open(
+pub(crate) fn open(
     alloc: Global,
     inputs: &mut MemInputs,
     stream: &str,

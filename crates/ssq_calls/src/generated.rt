@@ -1,29 +1,16 @@
 //! The lines of small generated inputs.
 
-use ssq_fakes::{MemInputs, MemLog};
+use crate::fakes::open;
+use ssq_fakes::MemInputs;
 use ssq_gen::{QUERY_NAME, made};
-use ssq_outside::{InputError, Inputs, Log};
+use ssq_outside::{Inputs, Log};
 use std::alloc::Global;
 use std::test::Fail;
-
-/// A part of a stream.
-fn opened(
-    alloc: Global,
-    inputs: &mut MemInputs,
-    stream: &str,
-    part: u32,
-) -> Result<Result<MemLog, InputError>, Fail> {
-    if part < inputs.parts(alloc, stream)? {
-        Ok(inputs.log(alloc, stream, part))
-    } else {
-        Err(Fail::from("no such part"))
-    }
-}
 
 /// The lines of a part, each with a line feed after it.
 fn part(alloc: Global, inputs: &mut MemInputs, number: u32) -> Result<Vec<u8>, Fail> {
     let mut all = Vec::new(alloc);
-    let mut log = opened(alloc, inputs, "g", number)??;
+    let mut log = open(alloc, inputs, "g", number)??;
     let mut line = Vec::new(alloc);
     for at in 0..log.lines()? {
         log.line(at, &mut line)?;
