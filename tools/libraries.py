@@ -10,6 +10,7 @@ A built library, crates/NAME/out/rlib, has a file `stamp`, a sum of the crate an
 good there too. Copies are hard links, since a clone's libraries come to 4 GB. `build` works in clones of its own beside CLONE (slot0,
 slot1, ..), because two runs of `rt` in one clone wait for each other's locks.
 """
+import argparse
 import os
 import pathlib
 import shutil
@@ -122,27 +123,44 @@ def build(clone, slots, targets):
     return failed
 
 
-def main(verb, *words):
-    if verb == "take":
-        clone = pathlib.Path(words[0]).resolve()
-        print(*take(clone, built_in(clone.parent)))
-    elif verb == "share":
-        folder = pathlib.Path(words[0]).resolve()
-        while True:
-            built = built_in(folder)
-            for clone in clones_in(folder):
-                try:
-                    taken = take(clone, built)
-                except (OSError, SystemExit):  # its files are being changed: it has its turn the next time
-                    continue
-                if taken:
-                    print(time.strftime("%H:%M:%S"), clone.name, "took", *taken, flush=True)
-            time.sleep(float(words[1]) if len(words) > 1 else 25)
-    elif verb == "build":
-        sys.exit(bool(build(pathlib.Path(words[0]).resolve(), int(words[1]), words[2:])))
+def share(folder, seconds):
+    """Takes over in each clone of a folder what fits, again and again."""
+    while True:
+        built = built_in(folder)
+        for clone in clones_in(folder):
+            try:
+                taken = take(clone, built)
+            except (OSError, SystemExit):  # its files are being changed: it has its turn the next time
+                continue
+            if taken:
+                print(time.strftime("%H:%M:%S"), clone.name, "took", *taken, flush=True)
+        time.sleep(seconds)
+
+
+def folder(path):
+    return pathlib.Path(path).resolve()
+
+
+def main():
+    parser = argparse.ArgumentParser(description=__doc__, formatter_class=argparse.RawDescriptionHelpFormatter)
+    verbs = parser.add_subparsers(dest="verb", required=True)
+    verb = verbs.add_parser("take")
+    verb.add_argument("clone", type=folder)
+    verb = verbs.add_parser("share")
+    verb.add_argument("folder", type=folder)
+    verb.add_argument("seconds", type=float, nargs="?", default=25)
+    verb = verbs.add_parser("build")
+    verb.add_argument("clone", type=folder)
+    verb.add_argument("slots", type=int)
+    verb.add_argument("crates", nargs="+", metavar="crate")
+    words = parser.parse_args()
+    if words.verb == "take":
+        print(*take(words.clone, built_in(words.clone.parent)))
+    elif words.verb == "share":
+        share(words.folder, words.seconds)
     else:
-        sys.exit(__doc__)
+        sys.exit(bool(build(words.clone, words.slots, words.crates)))
 
 
 if __name__ == "__main__":
-    main(*sys.argv[1:]) if sys.argv[1:] else sys.exit(__doc__)
+    main()
