@@ -3,7 +3,6 @@ use Rattle.std.proofs.Common.{◌≡◌, subst, ℕ, ◌≤ℤ◌, ℤ, pos, Lis
 use Rattle.std.proofs.lemmas.List.Elements.{All-weaker}
 use Rattle.ssq_time.specs.Time.{IsSpan}
 use Rattle.ssq_ast.specs.declared.query.Query.{Query}
-use Rattle.ssq_outside.specs.History.{History}
 use Rattle.ssq_shape.specs.declared.bound.Bound.{Bound}
 use Rattle.ssq_shape.specs.declared.bound.Joining.{Joining}
 use Rattle.ssq_shape.specs.declared.bound.Shape.{Shape}
@@ -16,10 +15,8 @@ use Rattle.ssq_bind.specs.TimeBounds.{LiesAround, HasTimeBoundBy}
 use Rattle.ssq_meaning.specs.JoinLaws.{IsAround, IsBounded}
 use Rattle.ssq_water.specs.Water.{IsDelay}
 use Rattle.ssq_accept.specs.Accepting.{IsAccepted}
-use Rattle.ssq_course.specs.Setting.{Setting}
 use Rattle.ssq_terms.specs.Setting.{Runs, CanRun}
-use Rattle.ssq_run.specs.Going.{IsAskedFor}
-use Rattle.ssq_run.specs.Program.{Given}
+use Rattle.ssq_run.specs.Queries.{IsSomeQuery}
 
 bounded : (bound : Option TimeBound) → IfSome bound LiesAround → IfSome bound IsAround
 bounded None lies = tt
@@ -54,8 +51,6 @@ can_run file query bound is = record {
   events = is.names.sound.events;
 }
 
--- the bound of the query that is to be run, if it joins by one, lies around the left row's time
-pub asked_is_bounded : (given : Given) (start : History) (s : Setting) (joining : Joining) → IsAskedFor given start s → s.job.bound.shape ≡ shape.Join joining → IsBounded joining
-asked_is_bounded given start s joining of is =
-    let shaped = subst (λ (b : Bound). b.shape ≡ shape.Join joining) of.setting.query is in
-    bounded joining.bound (subst HasTimeBoundBy shaped of.asks.is.accepted.time_bound)
+-- the bound of a query that a file can be, if it joins by one, lies around the left row's time
+pub query_is_bounded : (bound : Bound) (joining : Joining) → IsSomeQuery bound → bound.shape ≡ shape.Join joining → IsBounded joining
+query_is_bounded bound joining some is = bounded joining.bound (subst HasTimeBoundBy is some.1.accepted.time_bound)

@@ -48,12 +48,8 @@ use Rattle.ssq_modes.specs.declared.fault.ModeFault.TheVariants as fault
 use Rattle.ssq_modes.specs.Modes as modes
 use Rattle.ssq_modes.specs.Modes.{AppliesNone, applies, are_shown}
 use Rattle.ssq_accept.specs.Accepting.{IsAccepted}
-use Rattle.ssq_outside.specs.History.{History}
-use Rattle.ssq_course.specs.Setting.{Setting}
 use Rattle.ssq_tables.specs.Agreeing.{ShowsItsKeys}
-use Rattle.ssq_run.specs.Going.{IsAskedFor}
-use Rattle.ssq_run.specs.Program.{Given}
-use Rattle.ssq_run.specs.Queries.{IsQueryOf, read_of}
+use Rattle.ssq_run.specs.Queries.{IsQueryOf}
 
 -- ---- each key is shown
 
@@ -227,7 +223,3 @@ query_shows_keys text bound own of same grouping is update =
     let shaped = subst (λ (b : Bound). b.shape ≡ shape.Group grouping) same is in
     let updates = subst (λ (b : Bound). b.mode ≡ mode.Update) same update in
     subst (λ (b : Bound). ShowsKeys b grouping) (sym same) (shows_keys text of.query bound grouping of.accepted shaped updates)
-
--- and the query that is to be run
-pub asked_shows_keys : (given : Given) (start : History) (s : Setting) → IsAskedFor given start s → ShowsItsKeys s.job.bound
-asked_shows_keys given start s of = query_shows_keys (read_of given.held of.asks.file) of.asks.bound s.job.bound of.asks.is of.setting.query

@@ -11,7 +11,7 @@ ghost use Rattle.ssq_meaning.specs.DedupLaws.{IsKnownAt, meaning_at as first_row
 ghost use Rattle.ssq_meaning.specs.Epochs.{accepted, key_fault, on_time, watermark, watermark_before};
 ghost use Rattle.ssq_meaning.specs.Group.{has_key, is_closed};
 ghost use Rattle.ssq_meaning.specs.GroupLaws.{IsWholeAt, meaning_at, times_considered};
-ghost use Rattle.ssq_meaning.specs.JoinLaws.{FindsAll, meaning_at as joined_rows_at};
+ghost use Rattle.ssq_meaning.specs.JoinLaws.{FindsAll, alone_at, alone_so_far, meaning_at as joined_rows_at};
 ghost use Rattle.ssq_meaning.specs.Laws.{outs, batch};
 ghost use Rattle.ssq_meaning.specs.Meaning.{Values as ValuesOf};
 ghost use Rattle.ssq_meaning.specs.Table.{table};
@@ -27,6 +27,7 @@ ghost use Rattle.ssq_course.specs.Setting.{Setting as SettingOf, parts_in, cours
 ghost use Rattle.ssq_words.specs.Asking.{asked};
 ghost use Rattle.ssq_run.specs.Going.{IsAskedFor, CanGoOn, HasRoom, IsFaultless, CanLook, CanShow, NoneFailed, IsDone, IsDoneToAFault};
 ghost use Rattle.ssq_run.specs.Program.{ProgramWrote};
+ghost use Rattle.ssq_run.specs.Queries.{IsSomeQuery};
 ghost use Rattle.ssq_run.specs.Shown.{HasWrittenTable};
 
 use crate::done::{Done, named, stopped};
@@ -39,7 +40,8 @@ use ssq_course::checkpoints_stand_as_logs_grow;
 use ssq_meaning::{
     first_rows_add_up, forgotten_groups_lose_no_row, forgotten_keys_lose_no_row,
     forgotten_rows_lose_no_partner, groups_in_append_add_up, groups_in_complete_are_shown_whole,
-    groups_in_update_replace_their_rows, joined_rows_add_up, rows_add_up, watermarks_never_fall,
+    groups_in_update_replace_their_rows, joined_rows_add_up, rows_add_up,
+    rows_alone_are_considered_once, watermarks_never_fall,
 };
 use ssq_outside::{Disk, Gate, Inputs, Output};
 use ssq_runner::{run_query, runs_go_on};
@@ -109,8 +111,8 @@ pub fn stream_main<R: Threads + Wait + Sync, D: Disk, I: Inputs, O: Output, G: G
         times_considered s.job.bound grouping (parts_in s) cuts key n ≡ 1 }
     ensures groups_are_whole { (s : SettingOf) (grouping : GroupingOf) (cuts : OffsetsOf) (n : ℕ) → s.job.bound.shape ≡ shape.Group grouping → s.job.bound.mode ≡ mode.Complete →
         IsPermutation (table s.job.bound (parts_in s) cuts n) (meaning_at s.job.bound grouping (parts_in s) cuts n) }
-    // And in Update it is the last row of each key, for the query that is to be run, where no key overflows.
-    ensures groups_are_replaced { (s : SettingOf) (grouping : GroupingOf) (cuts : OffsetsOf) (n : ℕ) → IsAskedFor (record { words = map string_bytes words.now; held = I.held inputs; known = I.available inputs }) (D.history disk) s →
+    // And in Update it is the last row of each key, for each query that a file can be, where no key overflows.
+    ensures groups_are_replaced { (s : SettingOf) (grouping : GroupingOf) (cuts : OffsetsOf) (n : ℕ) → IsSomeQuery s.job.bound →
         s.job.bound.shape ≡ shape.Group grouping → s.job.bound.mode ≡ mode.Update → ((e : ℕ) → e < n → key_fault s.job.bound (parts_in s) cuts e ≡ None) →
         IsPermutation (table s.job.bound (parts_in s) cuts n) (meaning_at s.job.bound grouping (parts_in s) cuts n) }
     // What a query that deduplicates its rows shows over so many epochs, one after the other, is the first row of each key among all rows of these
@@ -119,12 +121,14 @@ pub fn stream_main<R: Threads + Wait + Sync, D: Disk, I: Inputs, O: Output, G: G
         outs s.job.bound (parts_in s) cuts n ≡ first_rows_at s.job.bound (parts_in s) cuts n }
     ensures repeats_are_known { (s : SettingOf) (columns : List ℕ) (cuts : OffsetsOf) (e : ℕ) → s.job.bound.shape ≡ shape.Dedup columns →
         All (λ row. IsKnownAt s.job.bound columns (parts_in s) cuts e row.key) (on_time s.job.bound (parts_in s) cuts e) }
-    // What the query that is to be run, where it joins two streams, shows over so many epochs, one after the other, is what it means on all rows of
+    // What a query that a file can be, where it joins two streams, shows over so many epochs, one after the other, is what it means on all rows of
     // these that were not late, at the last watermark, each row as often: the pairs, and the rows without a partner whose last partner would be late.
+    // Each row without a partner that is over by then was considered by one of these epochs, and by no other.
     // No such row comes after a row was forgotten that meets the key equalities and the bound with it: what is kept has each such row that came before.
-    ensures joined_rows_add_up { (s : SettingOf) (joining : JoiningOf) (cuts : OffsetsOf) (n : ℕ) → IsAskedFor (record { words = map string_bytes words.now; held = I.held inputs; known = I.available inputs }) (D.history disk) s →
-        s.job.bound.shape ≡ shape.Join joining →
+    ensures joined_rows_add_up { (s : SettingOf) (joining : JoiningOf) (cuts : OffsetsOf) (n : ℕ) → IsSomeQuery s.job.bound → s.job.bound.shape ≡ shape.Join joining →
         IsPermutation (outs s.job.bound (parts_in s) cuts n) (joined_rows_at s.job.bound joining (parts_in s) cuts n) }
+    ensures rows_alone_come_once { (s : SettingOf) (joining : JoiningOf) (cuts : OffsetsOf) (n : ℕ) → IsSomeQuery s.job.bound → s.job.bound.shape ≡ shape.Join joining →
+        IsPermutation (alone_so_far s.job.bound joining (parts_in s) cuts n) (alone_at s.job.bound joining (parts_in s) cuts n) }
     ensures partners_are_kept { (s : SettingOf) (joining : JoiningOf) (cuts : OffsetsOf) (e : ℕ) → s.job.bound.shape ≡ shape.Join joining →
         All (FindsAll s.job.bound joining (parts_in s) cuts e) (on_time s.job.bound (parts_in s) cuts e) }
     // No row that is not late comes after its group was forgotten: what is kept of the group has each of its rows. And watermarks never fall.
@@ -189,6 +193,7 @@ pub fn stream_main<R: Threads + Wait + Sync, D: Disk, I: Inputs, O: Output, G: G
     first_rows_add_up();
     forgotten_keys_lose_no_row();
     joined_rows_add_up();
+    rows_alone_are_considered_once();
     forgotten_rows_lose_no_partner();
     watermarks_never_fall();
     files_have_one_answer();

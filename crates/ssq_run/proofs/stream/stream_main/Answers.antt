@@ -10,8 +10,8 @@ use Rattle.ssq_run.specs.Stopping.{HasCount, WordsCause, stop_in}
 use Rattle.ssq_run.proofs.Going as going
 use Rattle.ssq_run.proofs.Looking.{looked_well}
 use Rattle.ssq_run.proofs.Passing.{counts_by, idle_of, look_end, none_counted, run_end, same_leaves, told_counts, told_past, unready_end, words_taken}
-use Rattle.ssq_run.proofs.Runnable.{asked_is_bounded}
-use Rattle.ssq_run.proofs.ShownKeys.{asked_shows_keys}
+use Rattle.ssq_run.proofs.Runnable.{query_is_bounded}
+use Rattle.ssq_run.proofs.ShownKeys.{query_shows_keys}
 use Rattle.ssq_run.proofs.ShownTable.{table_shown}
 use Rattle.ssq_run.proofs.Tabling.{shown_well}
 use Rattle.ssq_run.proofs.Telling.{disk_told, log_told, no_command_told, out_told, status_since, usage_told, wrote_since}
@@ -213,8 +213,8 @@ pub returns-clause-groups_are_whole : goal.returns-clause-groups_are_whole
 returns-clause-groups_are_whole g c = λ s grouping cuts n is complete. c.groups_in_complete_are_shown_whole.ensures s.job.bound grouping is (parts_in s) cuts complete n
 
 pub returns-clause-groups_are_replaced : goal.returns-clause-groups_are_replaced
-returns-clause-groups_are_replaced g c = λ s grouping cuts n of is update clean.
-    c.groups_in_update_replace_their_rows.ensures s.job.bound grouping is (parts_in s) cuts update (asked_shows_keys _ _ s of grouping is update) n clean
+returns-clause-groups_are_replaced g c = λ s grouping cuts n some is update clean.
+    c.groups_in_update_replace_their_rows.ensures s.job.bound grouping is (parts_in s) cuts update (query_shows_keys some.0 s.job.bound s.job.bound some.1 refl grouping is update) n clean
 
 pub returns-clause-groups_lose_no_row : goal.returns-clause-groups_lose_no_row
 returns-clause-groups_lose_no_row g c = λ s grouping cuts e is. c.forgotten_groups_lose_no_row.ensures.whole s.job.bound grouping is (parts_in s) cuts e
@@ -226,8 +226,12 @@ pub returns-clause-repeats_are_known : goal.returns-clause-repeats_are_known
 returns-clause-repeats_are_known g c = λ s columns cuts e is. c.forgotten_keys_lose_no_row.ensures.known s.job.bound columns is (parts_in s) cuts e
 
 pub returns-clause-joined_rows_add_up : goal.returns-clause-joined_rows_add_up
-returns-clause-joined_rows_add_up g c = λ s joining cuts n of is.
-    c.joined_rows_add_up.ensures.rows s.job.bound joining is (asked_is_bounded _ _ s joining of is) (parts_in s) cuts n
+returns-clause-joined_rows_add_up g c = λ s joining cuts n some is.
+    c.joined_rows_add_up.ensures.rows s.job.bound joining is (query_is_bounded s.job.bound joining some is) (parts_in s) cuts n
+
+pub returns-clause-rows_alone_come_once : goal.returns-clause-rows_alone_come_once
+returns-clause-rows_alone_come_once g c = λ s joining cuts n some is.
+    c.rows_alone_are_considered_once.ensures.rows s.job.bound joining is (query_is_bounded s.job.bound joining some is) (parts_in s) cuts n
 
 pub returns-clause-partners_are_kept : goal.returns-clause-partners_are_kept
 returns-clause-partners_are_kept g c = λ s joining cuts e is. c.forgotten_rows_lose_no_partner.ensures.found s.job.bound joining is (parts_in s) cuts e
