@@ -6,7 +6,7 @@
 A program runs over each state, both on the same processor, and only one of them at a time: the other is halted. Ten lines are added to
 the log of one, and the time is taken until the program has told their epoch, which it does when all of it is settled; then to the log of
 the other. Which one is first is drawn. So both epochs of a pair have the same machine and the same disk, and nothing runs beside them.
-Epochs behind which a snapshot is due are not counted: the program goes on there until the snapshot is made and older files are gone, and
+Epochs after which a snapshot is due are not counted: the program goes on there until the snapshot is made and older files are gone, and
 then both stand still (REST seconds of the environment, 0.5).
 
 It tells the median of the pairs' ratios and their geometric mean, each with where 95 of 100 drawings anew lie, and milliseconds.

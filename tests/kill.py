@@ -19,7 +19,7 @@ ended before its kill is judged as the last one is, and not counted as killed.
 After each run the plans are read, to learn the cuts, and nothing else is taken from the program: what each plan, commit, sink
 file and file of the state has to hold, and each line that was printed, is computed from the logs (tests/model.py), and compared
 byte for byte. Plans and commits that were there stay. Each epoch whose line was printed has its commit and its sink file. A run prints
-the lines of the epochs that it commits, in order and from the first one on: a killed one those of each round behind which it planned
+the lines of the epochs that it commits, in order and from the first one on: a killed one those of each round after which it planned
 an epoch, one that ends by itself all. Of the state each delta is there that the next run needs, and no file that may not be. After the
 last run each line of the logs is in exactly one epoch, no window is left to be closed, and of the state there is exactly what upkeep
 leaves. Every second kill of a query that keeps state waits for a moment at which upkeep is due; it is told how many left a snapshot to
@@ -300,7 +300,7 @@ class Checkpoint:
         self.untold = len(new) - told
 
     def judge_rounds(self, epochs, planned):
-        """A run behind `planned` plans told each epoch of a round that has ended. That of an epoch has, where it took less of a part than it
+        """A run after `planned` plans told each epoch of a round that has ended. That of an epoch has, where it took less of a part than it
         might, and there is a later one with more of that part."""
         for e in range(planned, len(epochs.cuts) - 1):
             parts = zip(epochs.begin(e), epochs.cuts[e], epochs.cuts[-1])
@@ -317,7 +317,7 @@ def started(folder, job, out, *more):
 
 
 def wait_for_upkeep(folder, chance):
-    """Waits until an epoch is committed behind which a snapshot is due, for a second at most, and then a little: a run of a million rounds
+    """Waits until an epoch is committed after which a snapshot is due, for a second at most, and then a little: a run of a million rounds
     that find nothing may end after two."""
     commits = folder / "checkpoint" / "commits"
     done = len(list(commits.iterdir())) if commits.exists() else 0

@@ -53,7 +53,7 @@ class Aggregate:
 
 @dataclasses.dataclass(frozen=True)
 class Join:
-    """JOIN of a second stream. `keys` has the pairs of columns that are equal, the left one first; `bound` the spans of a right row's time behind
+    """JOIN of a second stream. `keys` has the pairs of columns that are equal, the left one first; `bound` the spans of a right row's time after
     the left row's, from the least to the greatest; and `rest` the other conditions of ON, from the left."""
 
     stream: str

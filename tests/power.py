@@ -5,19 +5,19 @@
 
 strace has to be there (for this script alone), and bin/ssq (`make` builds it). The queries are those of tests/kill.py. Runs go over logs that grow.
 Some are broken: killed in front of a sync, or a sync, or a call that writes, renames, removes or makes a file or a folder, fails, for which the run has to
-stop and to say so. The first three always are. The next one begins on names that are not synced; behind some the
+stop and to say so. The first three always are. The next one begins on names that are not synced; after some the
 power is lost, and the next one begins on what may be left.
 
 strace tells each call by which a run makes, writes, renames, removes and syncs files and folders, and these are played on a model of a file system.
 After a power loss a name may be, by itself, what it was when its folder was last synced, or anything that it was since; a new folder is a name in
-the one above. A file has its bytes if it was synced behind its last write, and else what was synced, nothing, zeros, or any front of what was written.
+the one above. A file has its bytes if it was synced after its last write, and else what was synced, nothing, zeros, or any front of what was written.
 
 Behind a share of the calls that change, sync or print something images are made of that: the least, which is settled, the most, which is the folder as it
 was, and some that are drawn. In each of them the epochs whose line was printed before have their plan, sink file and commit, and each file is what it may
 be, byte for byte (tests/model.py). From a share of them (--ends, all) a run goes on over the whole logs to the end, and is judged as that of tests/kill.py is.
 
 So this shows, of the runs that it made, that the program asks a real folder for the syncs that it needs, and in the right order. It does not show that a
-file system keeps what it synced, nor that it does so in a sync behind one that failed. It is not part of the gate, since it takes minutes. That it can
+file system keeps what it synced, nor that it does so in a sync after one that failed. It is not part of the gate, since it takes minutes. That it can
 fail is seen with --forget files, --forget folders or --forget with a folder (., checkpoint, checkpoint/sink ..): the model then passes over those syncs.
 """
 import argparse
@@ -44,7 +44,7 @@ STRANGE = "open,creat,pwrite64,writev,pwritev,pwritev2,truncate,ftruncate,falloc
 LONGEST = 1 << 24  # bytes of a text in a trace
 RUNS = 6  # over one checkpoint
 BREAKS = ["fsync:signal=KILL"] * 5 + ["fsync:error=EIO"] * 3 + ["write:error=ENOSPC", "rename:error=EIO", "unlink:error=EIO", "mkdir:error=ENOSPC"]
-FIRST = ["fsync:signal=KILL:when=7", "fsync:error=EIO:when=3", "fsync:error=EIO:when=20"]  # in the first epoch, in the opening, behind some commits
+FIRST = ["fsync:signal=KILL:when=7", "fsync:error=EIO:when=3", "fsync:error=EIO:when=20"]  # in the first epoch, in the opening, after some commits
 FAULTS = {7: "DiskFault", 8: "OutFault"}
 LEAST, MOST = operator.itemgetter(0), operator.itemgetter(-1)
 CAP = 3  # lines of a part in an epoch: few, since each image is run on and judged to the end
@@ -294,7 +294,7 @@ class Trial:
                     self.judge(image, told)
                 except AssertionError as wrong:
                     write_image(fresh(self.base / "left"), image)
-                    raise AssertionError(f"behind {call.name} {call.texts[-1:]} of run {self.found['runs']}: {wrong}") from None
+                    raise AssertionError(f"after {call.name} {call.texts[-1:]} of run {self.found['runs']}: {wrong}") from None
 
     def judge(self, image, told):
         """It keeps what was told, each of its files is right, and a run that goes on from it ends well."""

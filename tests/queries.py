@@ -7,7 +7,7 @@ Each query has other expressions in its items and in WHERE, another mode and ano
 HAVING and ORDER BY; each with DEDUPLICATE other columns; each join another kind, key, bound and rest of ON. It runs up to three times, over logs
 of up to three parts that grow in between, in one to twelve partitions, with a cap or none. Some rows are late, some lines bad, and some results
 overflow. Of a twentieth of the queries the logs take several of the blocks in which logs are read. What each run has to print, its status, each
-file of the checkpoint, and what `show`, `status` and `explain` write before and behind each run are computed from the logs (tests/model.py), and
+file of the checkpoint, and what `show`, `status` and `explain` write before and after each run are computed from the logs (tests/model.py), and
 compared byte for byte.
 
 It is not part of the gate, since it takes minutes.
@@ -249,7 +249,7 @@ class Maker:
         return self.chance.choice([common, self.guarded(), self.term(Kind.BOOLEAN, 3), either(self.term(Kind.BOOLEAN), common)])
 
     def where(self):
-        """What stands behind FROM, and its value: None where there is no WHERE."""
+        """What stands after FROM, and its value: None where there is no WHERE."""
         if self.chance.random() < 0.3:
             return "", None
         condition = self.condition()
@@ -412,7 +412,7 @@ def made_distinct(chance):
 
 
 def shifted_time(by):
-    """The left row's time, and a span behind it or before."""
+    """The left row's time, and a span after it or before."""
     left = named("l.ts", Kind.TIMESTAMP)
     return computed(left, "-" if by < 0 else "+", span(abs(by), "seconds")) if by else left
 

@@ -54,7 +54,7 @@ class Job:
 
 
 def at(seconds, **more):
-    """A line whose time is so many seconds behind noon."""
+    """A line whose time is so many seconds after noon."""
     values = "".join(f',"{name}":"{value}"' for name, value in more.items())
     return f'{{"ts":"2024-01-01T12:{seconds // 60:02}:{seconds % 60:02}Z"{values}}}'
 
@@ -348,7 +348,7 @@ ORDER = [
 
 
 def in_order():
-    """For each fault of ORDER a refusal with it and all behind it. What they change is changed from the last one on, so that the first has its way."""
+    """For each fault of ORDER a refusal with it and all that come after it. What they change is changed from the last one on, so that the first has its way."""
     for first, (line, _, _) in enumerate(ORDER):
         faults = ORDER[first:]
         words = next((words for _, _, words in faults if words), RUN)
@@ -459,7 +459,7 @@ class Trials:
         raise AssertionError(f"{words} has too little with {MOST} bytes")
 
     def judge_starved_runs(self, job, lines, told, sink):
-        """Runs with one epoch more, of these lines, and behind each a run with memory. How many had too little."""
+        """Runs with one epoch more, of these lines, and after each a run with memory. How many had too little."""
         more = edit("s.0.jsonl", lambda content: content + "".join(line + "\n" for line in lines).encode())
         end, refused = f"done epochs {job.epochs + 1}\n".encode(), 0
         for folder, done in self.starved(RUN, job, more):

@@ -527,7 +527,7 @@ class Distinct(unittest.TestCase):
 
 
 def paired(outer=Outer.NEITHER, rest=(), where=None):
-    """The ids of impressions `l`, with those of clicks `r` of one id within an hour behind each."""
+    """The ids of impressions `l`, with those of clicks `r` of one id within an hour after each."""
     columns = {"ts": Kind.TIMESTAMP, "id": Kind.BIGINT, "v": Kind.BIGINT}
     return Query(
         text="",
@@ -548,7 +548,7 @@ def row_bytes(side, number, epoch, offset):
 
 
 def kept_bytes(seconds, number, met):
-    """What is kept of a row: its time, so many seconds behind 1970, its id, NULL, and whether it met a partner."""
+    """What is kept of a row: its time, so many seconds after 1970, its id, NULL, and whether it met a partner."""
     return "00000014" + "03" + (2**63 + seconds * 10**6).to_bytes(8, "big").hex() + "02" + (2**63 + number).to_bytes(8, "big").hex() + "00" + met
 
 

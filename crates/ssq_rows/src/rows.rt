@@ -136,7 +136,7 @@ pub(crate) const TIMED_FILES: Files = &[
     (Name::Out(1), b"{\"id\":4}\n"),
 ];
 
-/// A time after the watermark of its epoch, in the last line of the first part.
+/// A time below the watermark of its epoch, in the last line of the first part.
 pub(crate) const BEHIND: &[&[u8]] = &[
     b"{\"id\":1,\"ts\":\"2024-01-01T12:03:00Z\"}\n{\"id\":2,\"ts\":\"2024-01-01T12:16:00Z\"}\n{\"id\":3,\"ts\":\"2024-01-01T12:02:00Z\"}\n",
     b"{\"id\":4,\"ts\":\"2024-01-01T12:04:00Z\"}\n",
@@ -338,7 +338,7 @@ static WORKED: [Row; 14] = [
         status: 0,
         after: TIMED_FILES,
     },
-    // A plain query has no late rows: that of 12:02 is shown after the watermark of its epoch.
+    // A plain query has no late rows: that of 12:02 is shown, though the watermark of its epoch is above it.
     Row {
         words: BY_ONE,
         query: TIMED,
