@@ -5,10 +5,10 @@ use ssq_files::{FolderDisk, FolderInputs, StandardOutput};
 use ssq_outside::{Gate, Output, TaskId};
 use ssq_run::stream_main;
 use std::alloc::{AllocError, Global};
+use std::env;
 use std::io::ErrorKind;
 use std::process::ExitCode;
 use std::rt::Env;
-use std::{env, io};
 
 /// A gate that nobody watches.
 struct Open;
@@ -34,14 +34,14 @@ fn words(rt: &(impl Env + Alloc<A = Global>)) -> Result<Vec<String>, AllocError>
     }
 }
 
-fn main(rt: HostRuntime) -> io::Result<ExitCode> {
+fn main(rt: HostRuntime) -> ExitCode {
     let Ok(words) = words(&rt) else {
         let _ = StandardOutput::new(rt).put(b"stopped 10 NoMemory\n");
-        return Ok(ExitCode::from(10));
+        return ExitCode::from(10);
     };
-    let disk = FolderDisk::new(rt.clone()?, "checkpoint");
-    let inputs = FolderInputs::new(rt.clone()?);
-    let out = StandardOutput::new(rt.clone()?);
+    let disk = FolderDisk::new(rt, "checkpoint");
+    let inputs = FolderInputs::new(rt);
+    let out = StandardOutput::new(rt);
     let ended = stream_main(&rt, rt.alloc(), words.as_slice(), disk, inputs, out, &Open);
-    Ok(ExitCode::from(ended.status))
+    ExitCode::from(ended.status)
 }
