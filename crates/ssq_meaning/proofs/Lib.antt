@@ -2,6 +2,7 @@ pub mod Between
 pub mod Causal
 pub mod Growing
 pub mod Water
+pub mod Greatest
 pub mod Adding
 pub mod Worked
 pub mod Keys

@@ -1,6 +1,6 @@
 //! Laws of epochs, of each query.
 
-ghost use Rattle.std.specs.Prelude.{◌≡◌, ◌+◌, ◌<◌, ◌≤◌, ℕ, ℤ, List, [], ◌∷◌, Option, None, filter_map, flat_map, map};
+ghost use Rattle.std.specs.Prelude.{◌≡◌, ◌+◌, ◌-◌, ◌<◌, ◌≤◌, ℕ, ℤ, List, [], ◌∷◌, Option, None, filter_map, flat_map, map};
 ghost use Rattle.std.specs.Cmp.Lexicographic.{slice_cmp};
 ghost use Rattle.std.specs.List.{range_with_len};
 ghost use Rattle.std.specs.List.Sorted.{IsPermutation, IsStrictlySortedBy};
@@ -9,9 +9,9 @@ ghost use Rattle.ssq_shape.specs.declared.bound.Bound.{Bound as Query};
 ghost use Rattle.ssq_shape.specs.declared.bound.Shape.TheVariants as shape;
 ghost use Rattle.ssq_meaning.specs.FedRows.{FedRow as Fed};
 ghost use Rattle.ssq_meaning.specs.Parts.{Part};
-ghost use Rattle.ssq_meaning.specs.Cut.{Cuts, AreCuts, AreSameTo};
+ghost use Rattle.ssq_meaning.specs.Cut.{Cuts, start_of, AreCuts, AreSameTo};
 ghost use Rattle.ssq_meaning.specs.Times.{AtMost};
-ghost use Rattle.ssq_meaning.specs.Epochs.{accepted, bucket, key_fault, on_time, seen, watermark, watermark_before};
+ghost use Rattle.ssq_meaning.specs.Epochs.{accepted, bucket, key_fault, on_time, seen, time_between, watermark, watermark_before};
 ghost use Rattle.ssq_meaning.specs.Group.{least_key};
 ghost use Rattle.ssq_meaning.specs.Operator.{operator_of};
 ghost use Rattle.ssq_meaning.specs.Laws.{ReadsSame, SaysSame, outs, batch};
@@ -34,6 +34,19 @@ pub fn epochs_hang_on_what_they_read()
 pub fn watermarks_never_fall()
     ensures { (query : Query) (parts : List Part) (cuts : Cuts) (e f : ℕ) → e ≤ f →
         AtMost (watermark query parts cuts e) (watermark query parts cuts f) }
+{}
+
+/// The law of greatest times: what was seen of a stream as an epoch begins is the greatest event time among its rows of all lines that
+/// the epochs before it cover, however these were cut. So the watermark of an epoch hangs on these lines alone, whatever their cuts and
+/// the epoch's number. The watermark before an epoch is that of the epoch before it, and so hangs on the lines before that one; where
+/// there is no epoch before, there are no such lines.
+pub fn greatest_times_are_of_all_lines()
+    ensures seen { (query : Query) (parts : List Part) (cuts : Cuts) (e stream : ℕ) → AreCuts parts cuts e →
+        seen query parts cuts stream e ≡ time_between query parts (start_of parts) (cuts e) stream }
+    ensures watermark { (query : Query) (parts : List Part) (one other : Cuts) (e f : ℕ) → AreCuts parts one e → AreCuts parts other f → one e ≡ other f →
+        watermark query parts one e ≡ watermark query parts other f }
+    ensures before { (query : Query) (parts : List Part) (one other : Cuts) (e f : ℕ) → AreCuts parts one (e - 1) → AreCuts parts other (f - 1) →
+        one (e - 1) ≡ other (f - 1) → watermark_before query parts one e ≡ watermark_before query parts other f }
 {}
 
 /// The law of epochs without lines: they leave the greatest times as they were, and so the watermark of the epoch after them.

@@ -38,8 +38,9 @@ pub use join::{
 };
 pub use laws::{
     epochs_hang_on_their_cuts, epochs_hang_on_what_they_read, epochs_without_lines_are_quiet,
-    kept_keys_ascend, keys_overflow_in_their_partitions, partitions_overflow_on_the_least_key,
-    partitions_show_all_rows, rows_add_up, watermarks_never_fall,
+    greatest_times_are_of_all_lines, kept_keys_ascend, keys_overflow_in_their_partitions,
+    partitions_overflow_on_the_least_key, partitions_show_all_rows, rows_add_up,
+    watermarks_never_fall,
 };
 pub use line::LineFault;
 pub use place::{KeyPlace, key_place, placed_time};
