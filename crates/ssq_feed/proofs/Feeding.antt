@@ -2,8 +2,6 @@
 use Rattle.std.proofs.Common.{◌≡◌, ◌<◌, ◌≤◌, ◌+◌, ◌-◌, ◌++◌, [], ◌∷◌, ℕ, zero, suc, ℤ, List, Option, Some, None, Ok, Err, refl, ap, sym, ◌∙◌, subst, inl, inr, arith, take, drop, map, length, append_assoc}
 use Rattle.std.specs.Prelude.{All, IfSome, IsOkAnd, Result, nat_lt, true, slice_get, option_and_then}
 use Rattle.std.specs.List.{flat_map, enumerate_from}
-use Rattle.std.specs.Int.{int_max}
-use Rattle.std.proofs.lemmas.Int.{ints}
 use Rattle.std.proofs.lemmas.Bool.{cases_lt, lt-ltb}
 use Rattle.std.proofs.lemmas.List.{append-nil, drop_more, take_all, length-take-le}
 use Rattle.std.proofs.lemmas.Option.{slice_get_within, get_or_from_slice_get}
@@ -28,6 +26,7 @@ use Rattle.ssq_meaning.specs.Meaning.{Line, Values, lines_between}
 use Rattle.ssq_meaning.specs.Parts.{Part}
 use Rattle.ssq_meaning.specs.Times.{later, greatest}
 use Rattle.ssq_meaning.specs.Feeding.{Handed, layout_at, read_at, handed, line_evaluated, line_read, line_handed, placed, fed_if, fed_at, time_of_row, time_if, time_at, fault_if, fault_at, first_of_all, or_else, fed_in, time_in, fault_in}
+use Rattle.ssq_meaning.proofs.Greatest.{later_assoc}
 use Rattle.ssq_meaning.proofs.Water.{later_none}
 use Rattle.ssq_feed.specs.declared.fault.FeedFault.{FeedFault}
 use Rattle.ssq_feed.specs.declared.fault.FeedFault.TheVariants.{BadLine, Overflow, LogFault, LogShort, NoMemory}
@@ -127,14 +126,6 @@ begun tells query epoch part from to partitions buckets none = record {
   greatest = λ tells. refl;
   good = λ tells. refl;
 }
-
-later_assoc : (r s t : Option ℤ) → later (later r s) t ≡ later r (later s t)
-later_assoc None s t = refl
-later_assoc (Some r) None t = refl
-later_assoc (Some r) (Some s) None = refl
-later_assoc (Some r) (Some s) (Some t) = ap Some (max_assoc r s t) where
-  max_assoc : (a b c : ℤ) → int_max (int_max a b) c ≡ int_max a (int_max b c)
-  max_assoc a b c = grind (arith, ints)
 
 -- the lines from an offset on are the line there and those after it
 lines_between-front : (at to : ℕ) (lines : List Line) (line : Line) → at < to → slice_get lines at ≡ Some line

@@ -1,4 +1,4 @@
--- The greatest time of some lines is that of their pieces together, so what was seen hangs on no cut in between.
+-- The greatest time of some lines is that of their pieces together, so what was seen depends on no cut in between.
 use Rattle.std.proofs.Common.{◌≡◌, ◌≤◌, ◌+◌, ◌-◌, ◌++◌, [], ◌∷◌, ℕ, zero, suc, ℤ, List, Option, Some, None, Bool, true, false, refl, ap, sym, ◌∙◌, arith, map, add-one}
 use Rattle.std.specs.Prelude.{◌==◌, if◌then◌else◌}
 use Rattle.std.specs.Int.{int_max}

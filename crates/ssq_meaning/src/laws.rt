@@ -37,8 +37,8 @@ pub fn watermarks_never_fall()
 {}
 
 /// The law of greatest times: what was seen of a stream as an epoch begins is the greatest event time among its rows of all lines that
-/// the epochs before it cover, however these were cut. So the watermark of an epoch hangs on these lines alone, whatever their cuts and
-/// the epoch's number. The watermark before an epoch is that of the epoch before it, and so hangs on the lines before that one; where
+/// the epochs before it cover, however these were cut. So the watermark of an epoch depends on these lines alone, whatever their cuts and
+/// the epoch's number. The watermark before an epoch is that of the epoch before it, and so depends on the lines before that one; where
 /// there is no epoch before, there are no such lines.
 pub fn greatest_times_are_of_all_lines()
     ensures seen { (query : Query) (parts : List Part) (cuts : Cuts) (e stream : ℕ) → AreCuts parts cuts e →

@@ -39,9 +39,9 @@ use ssq_bind::{queries_are_typed, queries_read_their_streams};
 use ssq_course::checkpoints_stand_as_logs_grow;
 use ssq_meaning::{
     first_rows_add_up, forgotten_groups_lose_no_row, forgotten_keys_lose_no_row,
-    forgotten_rows_lose_no_partner, groups_in_append_add_up, groups_in_complete_are_shown_whole,
-    groups_in_update_replace_their_rows, joined_rows_add_up, rows_add_up,
-    rows_alone_are_considered_once, watermarks_never_fall,
+    forgotten_rows_lose_no_partner, greatest_times_are_of_all_lines, groups_in_append_add_up,
+    groups_in_complete_are_shown_whole, groups_in_update_replace_their_rows, joined_rows_add_up,
+    rows_add_up, rows_alone_are_considered_once, watermarks_never_fall,
 };
 use ssq_outside::{Disk, Gate, Inputs, Output};
 use ssq_runner::{run_query, runs_go_on};
@@ -131,10 +131,13 @@ pub fn stream_main<R: Threads + Wait + Sync, D: Disk, I: Inputs, O: Output, G: G
         IsPermutation (alone_so_far s.job.bound joining (parts_in s) cuts n) (alone_at s.job.bound joining (parts_in s) cuts n) }
     ensures partners_are_kept { (s : SettingOf) (joining : JoiningOf) (cuts : OffsetsOf) (e : ℕ) → s.job.bound.shape ≡ shape.Join joining →
         All (FindsAll s.job.bound joining (parts_in s) cuts e) (on_time s.job.bound (parts_in s) cuts e) }
-    // No row that is not late comes after its group was forgotten: what is kept of the group has each of its rows. And watermarks never fall.
+    // No row that is not late comes after its group was forgotten: what is kept of the group has each of its rows.
     ensures groups_lose_no_row { (s : SettingOf) (grouping : GroupingOf) (cuts : OffsetsOf) (e : ℕ) → s.job.bound.shape ≡ shape.Group grouping →
         All (λ row. IsWholeAt s.job.bound grouping (parts_in s) cuts e row.key) (on_time s.job.bound (parts_in s) cuts e) }
+    // Watermarks never fall, and that of an epoch depends on the lines that the epochs before it cover, however these were cut.
     ensures watermarks_rise { (s : SettingOf) (cuts : OffsetsOf) (e f : ℕ) → e ≤ f → AtMost (watermark s.job.bound (parts_in s) cuts e) (watermark s.job.bound (parts_in s) cuts f) }
+    ensures watermarks_are_of_lines { (s : SettingOf) (one other : OffsetsOf) (e f : ℕ) → AreCuts (parts_in s) one e → AreCuts (parts_in s) other f → one e ≡ other f →
+        watermark s.job.bound (parts_in s) one e ≡ watermark s.job.bound (parts_in s) other f }
 
     // How it ends, in the order of its work: what is left on the disk, which logs came back, what was written, and why.
     ensures ending { D.tells → I.tells → ProgramWrote I.tells (D.tells × I.Log.tells) I.Log.lines I.Log.available I.Log.answers I.Log.faults
@@ -196,6 +199,7 @@ pub fn stream_main<R: Threads + Wait + Sync, D: Disk, I: Inputs, O: Output, G: G
     rows_alone_are_considered_once();
     forgotten_rows_lose_no_partner();
     watermarks_never_fall();
+    greatest_times_are_of_all_lines();
     files_have_one_answer();
     job_is_wanted();
     queries_are_typed();

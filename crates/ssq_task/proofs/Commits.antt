@@ -1,17 +1,16 @@
 -- Lines of commits and greatest times.
 use Rattle.std.proofs.Common.{◌≡◌, ◌<◌, ◌≤◌, ◌+◌, ◌==◌, ◌++◌, [], ◌∷◌, ℕ, zero, suc, ℤ, List, Option, Some, None, Bool, true, false, true≢false, refl, ap, sym, ◌∙◌, subst, arith, map, drop, length, get_or}
 use Rattle.std.specs.Prelude.{All, IfSome, filter, if◌then◌else◌, is_some}
-use Rattle.std.specs.Int.{int_max}
 use Rattle.std.specs.List.{cons_option}
 use Rattle.std.specs.Option.{ForSome}
 use Rattle.std.proofs.lemmas.Bool.{eqb-true, eqb-false, eq-eqb, ne_eqb}
-use Rattle.std.proofs.lemmas.Int.{ints}
 use Rattle.std.proofs.lemmas.List.{drop_more, drop_all, append_assoc, append-nil}
 use Rattle.std.proofs.lemmas.List.Elements.{All-cons, All-head, All-tail, All-nil}
 use Rattle.ssq_time.specs.Time.{IsLineTime}
 use Rattle.ssq_shape.specs.declared.bound.Bound.{Bound}
 use Rattle.ssq_shape.specs.declared.bound.Stream.{Stream}
 use Rattle.ssq_meaning.specs.Times.{Delay, delay_of, delays, delays_from, later, greatest}
+use Rattle.ssq_meaning.proofs.Greatest.{later_assoc}
 use Rattle.ssq_meaning.proofs.Water.{later_none}
 use Rattle.ssq_water.specs.Water.{seen_at, AreLineTimes}
 use Rattle.ssq_plans.specs.declared.seen.SeenBy.{SeenBy}
@@ -89,12 +88,6 @@ pub lines_timed : (query : Bound) (times : List (Option ℤ)) → AreLineTimes t
 lines_timed query times are = timed (delays query) times are
 
 -- ---- the times that lines tell
-
-pub later_assoc : (a b c : Option ℤ) → later (later a b) c ≡ later a (later b c)
-later_assoc None b c = refl
-later_assoc (Some a) None c = refl
-later_assoc (Some a) (Some b) None = refl
-later_assoc (Some a) (Some b) (Some c) = ap Some (let same : int_max (int_max a b) c ≡ int_max a (int_max b c) = grind (arith, ints) in same)
 
 pub same_test : (m n : ℕ) (b : Bool) → (m == n) ≡ b → (n == m) ≡ b
 same_test m n true is = eq-eqb n m (sym (eqb-true m n is))

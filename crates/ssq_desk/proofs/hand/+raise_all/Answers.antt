@@ -3,7 +3,7 @@ use Rattle.std.proofs.lemmas.List.{nil_from_length}
 use Rattle.ssq_meaning.specs.Times.{later}
 use Rattle.ssq_meaning.proofs.Water.{later_none}
 use Rattle.ssq_water.specs.Water.{seen_at}
-use Rattle.ssq_task.proofs.Commits.{later_assoc}
+use Rattle.ssq_meaning.proofs.Greatest.{later_assoc}
 use Rattle.ssq_desk.specs.declared.desk.PartLog.{PartLog}
 use Rattle.ssq_desk.specs.Handing.{CanRaise, time_of_part_log, time_in_part_logs}
 use Rattle.ssq_desk.proofs.hand.+raise_all.Goals as goal

@@ -238,3 +238,6 @@ returns-clause-partners_are_kept g c = λ s joining cuts e is. c.forgotten_rows_
 
 pub returns-clause-watermarks_rise : goal.returns-clause-watermarks_rise
 returns-clause-watermarks_rise g c = λ s cuts e f later. c.watermarks_never_fall.ensures s.job.bound (parts_in s) cuts e f later
+
+pub returns-clause-watermarks_are_of_lines : goal.returns-clause-watermarks_are_of_lines
+returns-clause-watermarks_are_of_lines g c = λ s one other e f are others same. c.greatest_times_are_of_all_lines.ensures.watermark s.job.bound (parts_in s) one other e f are others same
