@@ -70,6 +70,16 @@ fn joined(alloc: Global, own: &[Value], other: KeptRow) -> Result<Vec<Value>, Al
     }
 }
 
+/// Knows these bytes from now on, too. They are copied where they were not known.
+fn add_key(met: &mut BTreeSet<Bytes>, key: &Bytes) -> Result<(), AllocError>
+    ensures { OnOk result ((bytes : List ℕ) → among met.new.keys bytes ≡ (is_at (by_bytes bytes) key.now || among met.old.keys bytes)) }
+{
+    if !met.contains(key) {
+        met.insert(key.clone()?)?;
+    }
+    Ok(())
+}
+
 /// Knows from now on that the rows with these bytes met a partner, where they did.
 fn know(
     met: &mut BTreeSet<Bytes>,
@@ -81,8 +91,8 @@ fn know(
         (if is_partner then (is_at (by_bytes bytes) first.now || (is_at (by_bytes bytes) second.now || among met.old.keys bytes)) else among met.old.keys bytes)) }
 {
     if is_partner {
-        met.insert(second.clone()?)?;
-        met.insert(first.clone()?)?;
+        add_key(met, second)?;
+        add_key(met, first)?;
     }
     Ok(())
 }
