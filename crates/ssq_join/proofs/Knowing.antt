@@ -8,6 +8,7 @@ use Rattle.std.specs.BTreeSet.{insert_key}
 use Rattle.std.specs.Ordering.{match_ordering}
 use Rattle.std.proofs.lemmas.Map.Lookups.{exact_bytes}
 use Rattle.ssq_version.specs.State.{by_bytes}
+use Rattle.ssq_version.proofs.Values.{by_case, one_key}
 use Rattle.ssq_join.specs.Telling.{among}
 
 pub among_inserted : (keys : List (List ℕ)) (key bytes : List ℕ) → among (insert_key by_bytes keys key) bytes ≡ (is_at (by_bytes bytes) key || among keys bytes)
@@ -31,10 +32,9 @@ among_inserted (other ∷ keys) key bytes = by (by_bytes key other) refl (among_
         again (is_at (by_bytes bytes) other) (among keys bytes) ∙ ap (λ (k : List ℕ). is_at (by_bytes bytes) k || (is_at (by_bytes bytes) other || among keys bytes)) (sym (exact_bytes key other is))
     by Greater is rest = ap (λ b. is_at (by_bytes bytes) other || b) rest ∙ turned (is_at (by_bytes bytes) other) (is_at (by_bytes bytes) key) (among keys bytes)
 
--- two that are put in, one after the other
-pub both_known : (before between after : List (List ℕ)) (first second : List ℕ) → between ≡ insert_key by_bytes before second → after ≡ insert_key by_bytes between first → (bytes : List ℕ)
-    → among after bytes ≡ (is_at (by_bytes bytes) first || (is_at (by_bytes bytes) second || among before bytes))
-both_known before between after first second one two bytes =
-    ap (λ (keys : List (List ℕ)). among keys bytes) two
-    ∙ among_inserted between first bytes
-    ∙ ap (λ b. is_at (by_bytes bytes) first || b) (ap (λ (keys : List (List ℕ)). among keys bytes) one ∙ among_inserted before second bytes)
+-- one that is there already
+pub among_known : (keys : List (List ℕ)) (key bytes : List ℕ) → among keys key ≡ true → among keys bytes ≡ (is_at (by_bytes bytes) key || among keys bytes)
+among_known keys key bytes has =
+    by_case (is_at (by_bytes bytes) key)
+    (λ at. ap (among keys) (one_key bytes key at) ∙ has ∙ sym (ap (λ b. b || among keys bytes) at))
+    (λ apart. sym (ap (λ b. b || among keys bytes) apart))

@@ -88,12 +88,15 @@ module _ (query : Bound) (joining : Joining) (row other : FedRow) (was : Bool) (
       own true not_b = absurd cc
       own false not_b = refl
 
-  -- the time of the other row is that of its values
-  time_on_left : is_left other.stream ≡ true → other.time ≡ join_time joining.bound 0 other.values
-  time_on_left left = is.own.own.time ∙ ap (λ s. join_time joining.bound s other.values) (is.own.stream ∙ ap stream_of left)
+  -- its event time is its time
+  pub event_is_time : join_time joining.bound (stream_of (is_left other.stream)) other.values ≡ other.time
+  event_is_time = sym (is.own.own.time ∙ ap (λ s. join_time joining.bound s other.values) is.own.stream)
 
-  time_on_right : is_left other.stream ≡ false → other.time ≡ join_time joining.bound 1 other.values
-  time_on_right right = is.own.own.time ∙ ap (λ s. join_time joining.bound s other.values) (is.own.stream ∙ ap stream_of right)
+  near_from_left : Faces joining row other → is_near joining.bound row.time other.time ≡ are_near joining row other.time
+  near_from_left faces = ap (λ b. if b then is_near joining.bound row.time other.time else is_near joining.bound other.time row.time) (sym faces.is_left_row)
+
+  near_from_right : Faces joining other row → is_near joining.bound other.time row.time ≡ are_near joining row other.time
+  near_from_right faces = ap (λ b. if b then is_near joining.bound row.time other.time else is_near joining.bound other.time row.time) (sym faces.is_right_row)
 
   -- it is a row that is kept so
   pub is_kept_row : IsKeptRow query (is_left other.stream) other.values was key value
@@ -107,23 +110,22 @@ module _ (query : Bound) (joining : Joining) (row other : FedRow) (was : Bool) (
     rest_of (x ∷ xs) = xs
 
   -- it is no candidate where the two do not meet the bound
-  pub none_judged : (left : Bool) → left ≡ is_left other.stream → are_near joining row left other.values ≡ false → are_candidates joining row other ≡ false
-  none_judged true left far =
-      let faces = faces_from_right (sym left) in
-      λ i. other_way joining other row faces i || (one_way joining other row faces ∙ ap (λ t. is_near joining.bound t row.time) (time_on_left (sym left)) ∙ far) i
-  none_judged false right far =
-      let faces = faces_from_left (sym right) in
-      λ i. (one_way joining row other faces ∙ ap (is_near joining.bound row.time) (time_on_right (sym right)) ∙ far) i || other_way joining row other faces i
+  pub none_judged : are_near joining row other.time ≡ false → are_candidates joining row other ≡ false
+  none_judged far = by (is_left other.stream) refl
+    where
+      by : (left : Bool) → is_left other.stream ≡ left → are_candidates joining row other ≡ false
+      by true left = let faces = faces_from_right left in λ i. other_way joining other row faces i || (one_way joining other row faces ∙ near_from_right faces ∙ far) i
+      by false right = let faces = faces_from_left right in λ i. (one_way joining row other faces ∙ near_from_left faces ∙ far) i || other_way joining row other faces i
 
-  judged_pair : (left : Bool) → left ≡ is_left other.stream → are_near joining row left other.values ≡ true → (met : Bool) → met ≡ is_met joining (joined left row.values other.values)
+  judged_pair : (left : Bool) → left ≡ is_left other.stream → are_near joining row other.time ≡ true → (met : Bool) → met ≡ is_met joining (joined left row.values other.values)
       → (are_candidates joining row other ≡ true) × (record { key = row.key; row = judged_row query joining (joined left row.values other.values) } ≡ considered_of query joining (row, other)) × (is_partner joining row other ≡ met)
-  judged_pair true left near met is_so = from_right query joining other row (faces_from_right (sym left)) is.same met (ap (λ t. is_near joining.bound t row.time) (time_on_left (sym left)) ∙ near) is_so
-  judged_pair false right near met is_so = from_left query joining row other (faces_from_left (sym right)) met (ap (is_near joining.bound row.time) (time_on_right (sym right)) ∙ near) is_so
+  judged_pair true left near met is_so = let faces = faces_from_right (sym left) in from_right query joining other row faces is.same met (near_from_right faces ∙ near) is_so
+  judged_pair false right near met is_so = let faces = faces_from_left (sym right) in from_left query joining row other faces met (near_from_left faces ∙ near) is_so
 
   pub none_met : (pairs : List Pair) (found : Shown) (met : List (List ℕ)) → are_candidates joining row other ≡ false → Meets query joining pairs found met → Meets query joining (with_candidate joining row other pairs) found met
   none_met pairs found met far meets = subst (λ b. Meets query joining (if b then (row, other) ∷ pairs else pairs) found met) (sym far) meets
 
-  pub one_met : (left : Bool) → left ≡ is_left other.stream → are_near joining row left other.values ≡ true → (met : Bool) → met ≡ is_met joining (joined left row.values other.values)
+  pub one_met : (left : Bool) → left ≡ is_left other.stream → are_near joining row other.time ≡ true → (met : Bool) → met ≡ is_met joining (joined left row.values other.values)
       → (pairs : List Pair) (found now : Shown) (before after : List (List ℕ))
       → ((all : List Considered) → Tells found all → Tells now (record { key = row.key; row = judged_row query joining (joined left row.values other.values) } ∷ all))
       → ((bytes : List ℕ) → among after bytes ≡ (if met then (is_at (by_bytes bytes) (row_key row) || (is_at (by_bytes bytes) key || among before bytes)) else among before bytes))

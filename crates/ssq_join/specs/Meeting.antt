@@ -1,5 +1,5 @@
 -- A new row, and those before it that may be its partners.
-use Rattle.std.specs.Prelude.{◌≡◌, ◌++◌, ◌∷◌, ℕ, Bool, true, false, not, if◌then◌else◌, List, map}
+use Rattle.std.specs.Prelude.{◌≡◌, ◌++◌, ◌∷◌, ℕ, ℤ, Bool, true, false, not, if◌then◌else◌, List, map, Option}
 use Rattle.std.specs.List.{AllByRecursion, list_any}
 use Rattle.std.specs.List.Sorted.{IsPermutation}
 use Rattle.ssq_version.specs.State.{State, front_with}
@@ -7,7 +7,7 @@ use Rattle.ssq_shape.specs.declared.bound.Bound.{Bound}
 use Rattle.ssq_shape.specs.declared.bound.Joining.{Joining}
 use Rattle.ssq_shape.specs.Evaluation.{is_null}
 use Rattle.ssq_meaning.specs.FedRows.{FedRow}
-use Rattle.ssq_meaning.specs.Join.{is_left, is_near, join_time, row_key, row_value}
+use Rattle.ssq_meaning.specs.Join.{is_left, is_near, row_key, row_value}
 use Rattle.ssq_meaning.specs.JoinLaws.{are_candidates}
 use Rattle.ssq_meaning.specs.Meaning.{Values}
 use Rattle.ssq_step.specs.declared.shown.Shown.{Shown}
@@ -16,10 +16,9 @@ use Rattle.ssq_join.specs.Telling.{Meets, Pair, candidates_of}
 
 -- ---- one pair
 
--- whether a row and the values of one of the side that is said meet the bound
-abbrev pub are_near : Joining → FedRow → (left : Bool) → Values → Bool
-are_near joining row true values = is_near joining.bound (join_time joining.bound 0 values) row.time
-are_near joining row false values = is_near joining.bound row.time (join_time joining.bound 1 values)
+-- whether a row and one of the other side with this time meet the bound
+abbrev pub are_near : Joining → FedRow → Option ℤ → Bool
+are_near joining row time = if is_left row.stream then is_near joining.bound row.time time else is_near joining.bound time row.time
 
 -- a row's own values with those of a row of the side that is said: the left row's, and then the right one's
 abbrev pub joined : (left : Bool) → (own other : Values) → Values

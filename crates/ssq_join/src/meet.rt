@@ -13,9 +13,9 @@ ghost use Rattle.ssq_join.specs.Telling.{Meets, Pair, among};
 use crate::judge::judge;
 use crate::near::is_near;
 use ssq_field::Bytes;
-use ssq_meaning::{FedRow, join_time};
+use ssq_meaning::FedRow;
 use ssq_shape::{Bound, Joining};
-use ssq_step::{KeptRow, Shown, read_row};
+use ssq_step::{KeptRow, Shown, event_time, read_row};
 use ssq_value::Value;
 use ssq_version::{Entries, begins_with};
 use std::alloc::{AllocError, Global};
@@ -30,23 +30,14 @@ pub(crate) struct Comer<'a> {
     pub(crate) bytes: &'a Bytes,
 }
 
-/// Whether a new row and one of the other side meet the bound.
-fn are_near(joining: &Joining, row: &FedRow, other: &KeptRow) -> bool
-    ensures { result ≡ are_near joining.now row.now other.now.left other.now.values }
+/// Whether a new row and one of the other side with this time meet the bound.
+fn are_near(joining: &Joining, row: &FedRow, time: Option<i64>) -> bool
+    ensures { result ≡ are_near joining.now row.now time }
 {
-    let values = other.values.as_slice();
-    if other.left {
-        is_near(
-            joining.bound,
-            join_time(joining.bound, 0, values),
-            row.time(),
-        )
+    if row.stream() == 0 {
+        is_near(joining.bound, row.time(), time)
     } else {
-        is_near(
-            joining.bound,
-            row.time(),
-            join_time(joining.bound, 1, values),
-        )
+        is_near(joining.bound, time, row.time())
     }
 }
 
@@ -70,6 +61,16 @@ fn joined(alloc: Global, own: &[Value], other: KeptRow) -> Result<Vec<Value>, Al
     }
 }
 
+/// Knows these bytes from now on, too. They are copied where they were not known.
+fn add_key(met: &mut BTreeSet<Bytes>, key: &Bytes) -> Result<(), AllocError>
+    ensures { OnOk result ((bytes : List ℕ) → among met.new.keys bytes ≡ (is_at (by_bytes bytes) key.now || among met.old.keys bytes)) }
+{
+    if !met.contains(key) {
+        met.insert(key.clone()?)?;
+    }
+    Ok(())
+}
+
 /// Knows from now on that the rows with these bytes met a partner, where they did.
 fn know(
     met: &mut BTreeSet<Bytes>,
@@ -81,13 +82,14 @@ fn know(
         (if is_partner then (is_at (by_bytes bytes) first.now || (is_at (by_bytes bytes) second.now || among met.old.keys bytes)) else among met.old.keys bytes)) }
 {
     if is_partner {
-        met.insert(second.clone()?)?;
-        met.insert(first.clone()?)?;
+        add_key(met, second)?;
+        add_key(met, first)?;
     }
     Ok(())
 }
 
-/// Takes in a row of the other side that is kept with the join key of a new one.
+/// Takes in a row of the other side that is kept with the join key of a new one. Only where the two are near it is read: its time alone is told
+/// without a copy.
 fn meet_row(
     alloc: Global,
     bound: &Bound,
@@ -106,13 +108,14 @@ fn meet_row(
         OnOk result (Meets bound.now joining.now (with_candidate joining.now comer.entry.row.now other pairs) found.new met.new.keys) }
     ensures printable { OnOk result (ArePrintable found.new.rows.items) }
 {
+    let time = event_time(bound, joining, key, value);
+    if !are_near(joining, comer.row, time) {
+        return Ok(());
+    }
     let read = read_row(alloc, bound, key, value)?;
     let Some(other) = read else {
         return Ok(());
     };
-    if !are_near(joining, comer.row, &other) {
-        return Ok(());
-    }
     let row = joined(alloc, comer.row.values(), other)?;
     let is_partner = judge(
         alloc,

@@ -1,5 +1,5 @@
 -- Keys that are put under a time, and the times of the rows of a join.
-use Rattle.std.proofs.Common.{◌≡◌, ℕ, ℤ, Some, None, List, Option, All, Bool, true, false, length, refl, ap, sym, subst, ◌∙◌}
+use Rattle.std.proofs.Common.{◌≡◌, ◌∷◌, ℕ, ℤ, Some, None, List, Option, All, Bool, true, false, length, refl, ap, sym, subst, ◌∙◌}
 use Rattle.std.specs.Prelude.{◌&&◌, if◌then◌else◌, FitsSigned, IfSome, is_some}
 use Rattle.std.specs.BTreeMap.{is_at}
 use Rattle.std.specs.Ordering.{int_cmp, is_eq}
@@ -14,9 +14,9 @@ use Rattle.ssq_shape.specs.declared.bound.Bound.{Bound}
 use Rattle.ssq_shape.specs.declared.bound.Joining.{Joining}
 use Rattle.ssq_shape.specs.declared.bound.TimeBound.{TimeBound}
 use Rattle.ssq_meaning.specs.Fit.{IsFit}
-use Rattle.ssq_meaning.specs.Join.{event_column, join_time, last_time}
+use Rattle.ssq_meaning.specs.Join.{event_column, join_time, last_time, side_byte}
 use Rattle.ssq_meaning.specs.Meaning.{Values}
-use Rattle.ssq_step.specs.Rows.{HasParts, HasTime, IsTimed, TurnsAt, end_of, stream_of, width_of}
+use Rattle.ssq_step.specs.Rows.{HasEventTime, HasParts, HasTime, IsEvent, IsTimed, TurnsAt, stream_of, width_of}
 use Rattle.ssq_step.specs.Timed.{Timed, by_time, has}
 use Rattle.ssq_step.proofs.Timing.{and_true, at_time}
 
@@ -92,9 +92,20 @@ pub parts_as : (key value other another : List ℕ) (left : Bool) (values : List
 parts_as key value other another left values met same alike own = record { rest = own.rest; side = sym same ∙ own.side; spelled = sym alike ∙ own.spelled }
 
 module _ (query : Bound) (joining : Joining) (key value : List ℕ) where
-  -- where these are the bytes of no row, it has no time
-  pub no_time : ((left : Bool) (values : List ℕ) (met : Bool) → HasParts key value left values met → ⊥) → HasTime query joining key value None
-  no_time none = record { found = tt; each = λ t is. absurd (none is.left (keys_of is.values) is.met is.row.bytes) }
+  -- where these bytes begin with no side, no row has a time
+  pub no_time : ((left : Bool) (rest : List ℕ) → key ≡ side_byte left ∷ rest → ◌≡◌ {A = Option Bool} None (Some left)) → HasTime query joining key value None
+  no_time none = record { found = tt; each = λ t is. absurd (never is.left (none is.left is.row.bytes.rest is.row.bytes.side)) }
+    where
+      never : (left : Bool) → ◌≡◌ {A = Option Bool} None (Some left) → ⊥
+      never left is = cc
+
+  -- where these are the bytes of no row, it has no event time
+  pub no_event : ((left : Bool) (values : List ℕ) (met : Bool) → HasParts key value left values met → ⊥) → HasEventTime query joining key value None
+  no_event none = record { found = tt; each = λ left values met row. absurd (none left (keys_of values) met row.bytes) }
+
+  -- and without a bound no row has one
+  pub no_event_time : joining.bound ≡ None → HasEventTime query joining key value None
+  no_event_time none = record { found = tt; each = λ left values met row. sym (ap (λ bound. join_time bound (stream_of left) values) none) }
 
   -- where the join has no bound, no row has a time
   pub unbounded : joining.bound ≡ None → HasTime query joining key value None
@@ -123,28 +134,50 @@ abbrev pub HasTimeIn : (bytes : List ℕ) (count column : ℕ) → ℤ → Type 
 HasTimeIn bytes count column t = (own : Values) × All IsFit own × (length own ≡ count) × (keys_of own ≡ bytes) × (time_in (cell_at own column) ≡ Some t)
 
 module _ (query : Bound) (joining : Joining) (key value : List ℕ) (limits : TimeBound) (left met : Bool) (bytes : List ℕ) (time : Option ℤ) (bound_is : joining.bound ≡ Some limits) (own : HasParts key value left bytes met) where
-  timed : (time : Option ℤ) → IfSome time (HasTimeIn bytes (width_of query left) (event_column left limits)) → (last : ℤ) → last_time joining.bound left time ≡ Some last → FitsSigned w64 last → IsTimed query joining key value last
-  timed None has last is fits = absurd (no_last joining.bound left last is)
-  timed (Some t) has last is fits = record {
-    left = left;
-    values = has.0;
-    met = met;
-    row = record { bytes = subst (λ b. HasParts key value left b met) (sym has.3) own; fit = has.1; many = has.2 };
-    time = ap (last_time joining.bound left) (in_column joining.bound limits left has.0 bound_is ∙ has.4) ∙ is;
+  -- the event time of the row with these bytes
+  pub has_event_time : IfSome time (HasTimeIn bytes (width_of query left) (event_column left limits))
+      → ((values : Values) → All IsFit values → length values ≡ width_of query left → keys_of values ≡ bytes → time ≡ time_in (cell_at values (event_column left limits)))
+      → ((l : Bool) (b : List ℕ) (m : Bool) → HasParts key value l b m → (left ≡ l) × (bytes ≡ b) × (met ≡ m))
+      → HasEventTime query joining key value time
+  has_event_time has each_time one = record {
+    found = IfSome_then time has (λ t at. record {
+      left = left;
+      values = at.0;
+      met = met;
+      row = record { bytes = subst (λ b. HasParts key value left b met) (sym at.3) own; fit = at.1; many = at.2 };
+      time = in_column joining.bound limits left at.0 bound_is ∙ at.4;
+    });
+    each = λ l values m row.
+        let same = one l (keys_of values) m row.bytes in
+        each_time values row.fit (row.many ∙ ap (width_of query) (sym same.0)) (sym same.1)
+        ∙ sym (in_column joining.bound limits left values bound_is)
+        ∙ ap (λ l. join_time joining.bound (stream_of l) values) same.0;
+  }
+
+module _ (query : Bound) (joining : Joining) (key value : List ℕ) (left : Bool) (one : (l : Bool) (rest : List ℕ) → key ≡ side_byte l ∷ rest → Some left ≡ Some l) where
+  own_side : (l : Bool) (rest : List ℕ) → key ≡ side_byte l ∷ rest → left ≡ l
+  own_side l rest is = let same = one l rest is in cc
+
+  timed : (time : Option ℤ) → IfSome time (IsEvent query joining key value) → (last : ℤ) → last_time joining.bound left time ≡ Some last → FitsSigned w64 last → IsTimed query joining key value last
+  timed None at last is fits = absurd (no_last joining.bound left last is)
+  timed (Some t) at last is fits = record {
+    left = at.left;
+    values = at.values;
+    met = at.met;
+    row = at.row;
+    time = ap (last_time joining.bound at.left) at.time ∙ ap (λ l. last_time joining.bound l (Some t)) (sym (own_side at.left at.row.bytes.rest at.row.bytes.side)) ∙ is;
     fits = fits;
   }
 
-  -- the time of the row with these bytes
-  pub row_has_time : (result : Option ℤ) → IfSome time (HasTimeIn bytes (width_of query left) (event_column left limits))
-      → ((values : Values) → All IsFit values → length values ≡ width_of query left → keys_of values ≡ bytes → time ≡ time_in (cell_at values (event_column left limits)))
-      → ((l : Bool) (b : List ℕ) (m : Bool) → HasParts key value l b m → (left ≡ l) × (bytes ≡ b) × (met ≡ m))
+  -- the time of a row of this side, by its event time
+  pub row_has_time : (time result : Option ℤ) → HasEventTime query joining key value time
       → IfSome result (λ last. (last_time joining.bound left time ≡ Some last) × FitsSigned w64 last) → ((last : ℤ) → FitsSigned w64 last → last_time joining.bound left time ≡ Some last → result ≡ Some last)
       → HasTime query joining key value result
-  row_has_time result has each_time one found each = record {
-    found = IfSome_then result found (λ last is. timed time has last is.0 is.1);
+  row_has_time time result event found each = record {
+    found = IfSome_then result found (λ last is. timed time event.found last is.0 is.1);
     each = λ t is.
-        let same = one is.left (keys_of is.values) is.met is.row.bytes in
-        let own_time : time ≡ join_time joining.bound (stream_of left) is.values =
-        each_time is.values is.row.fit (is.row.many ∙ ap (width_of query) (sym same.0)) (sym same.1) ∙ sym (in_column joining.bound limits left is.values bound_is) in
-        each t is.fits (ap (last_time joining.bound left) own_time ∙ ap (λ l. end_of joining l is.values) same.0 ∙ is.time);
+        each t is.fits
+        (ap (last_time joining.bound left) (event.each is.left is.values is.met is.row)
+        ∙ ap (λ l. last_time joining.bound l (join_time joining.bound (stream_of is.left) is.values)) (own_side is.left is.row.bytes.rest is.row.bytes.side)
+        ∙ is.time);
   }

@@ -31,6 +31,19 @@ pub record IsKeptRow (query : Bound) (left : Bool) (values : Values) (met : Bool
   pub fit : All IsFit values
   pub many : length values ≡ width_of query left
 
+-- The row that is kept so has this event time.
+pub record IsEvent (query : Bound) (joining : Joining) (key value : List ℕ) (t : ℤ) : Type 0 where
+  pub left : Bool
+  pub values : Values
+  pub met : Bool
+  pub row : IsKeptRow query left values met key value
+  pub time : join_time joining.bound (stream_of left) values ≡ Some t
+
+-- the event time of what is kept under some bytes: of a row that of its values, if they have one, and of nothing else any
+pub record HasEventTime (query : Bound) (joining : Joining) (key value : List ℕ) (time : Option ℤ) : Type 0 where
+  pub found : IfSome time (IsEvent query joining key value)
+  pub each : (left : Bool) (values : Values) (met : Bool) → IsKeptRow query left values met key value → time ≡ join_time joining.bound (stream_of left) values
+
 -- the greatest time that a partner of a row can have
 abbrev pub end_of : Joining → (left : Bool) → Values → Option ℤ
 end_of joining left values = last_time joining.bound left (join_time joining.bound (stream_of left) values)

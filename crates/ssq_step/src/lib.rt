@@ -19,6 +19,6 @@ pub use copies::copied_row;
 pub use fault::StepFault;
 pub use forgetting::forget;
 pub use key::Key;
-pub use rows::{KeptRow, read_row, width_of};
+pub use rows::{KeptRow, event_time, read_row, width_of};
 pub use shown::Shown;
 pub use stepped::Stepped;

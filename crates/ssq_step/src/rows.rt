@@ -5,7 +5,7 @@ ghost use Rattle.std.specs.Int.{w64};
 ghost use Rattle.ssq_value.specs.declared.value.Value.{Value as Cell};
 ghost use Rattle.ssq_meaning.specs.Fit.{IsFit};
 ghost use Rattle.ssq_meaning.specs.Join.{last_time, met_byte, side_byte};
-ghost use Rattle.ssq_step.specs.Rows.{HasTime, IsKeptRow, HasParts, stream_of, width_of};
+ghost use Rattle.ssq_step.specs.Rows.{HasEventTime, HasTime, IsKeptRow, HasParts, stream_of, width_of};
 
 use ssq_field::Bytes;
 use ssq_keys::{read_key, time_at};
@@ -117,13 +117,22 @@ fn last_time(bound: Option<TimeBound>, left: bool, time: Option<i64>) -> Option<
     }
 }
 
+/// The event time of the row that is kept under these bytes, with these after them, in microseconds since 1970. None where it has none, or is no
+/// row, and without a bound. No value of it is copied.
+pub fn event_time(bound: &Bound, joining: &Joining, key: &Bytes, value: &Bytes) -> Option<i64>
+    ensures { HasEventTime bound.now joining.now key.now value.now result }
+{
+    let limits = joining.bound?;
+    let RowBytes { left, values, .. } = parts_of(key.as_slice(), value.as_slice())?;
+    time_at(values, width_of(bound, left), event_column(left, limits))
+}
+
 /// The time at which the row that is kept under these bytes is over, in microseconds since 1970: where a watermark is at or above it, the row is
 /// kept no more. None where it has none, or is no row, and without a bound. No value of it is copied.
 pub(crate) fn row_time(bound: &Bound, joining: &Joining, key: &Bytes, value: &Bytes) -> Option<i64>
     ensures { HasTime bound.now joining.now key.now value.now result }
 {
-    let limits = joining.bound?;
-    let RowBytes { left, values, .. } = parts_of(key.as_slice(), value.as_slice())?;
-    let time = time_at(values, width_of(bound, left), event_column(left, limits));
+    let left = side_of(key.as_slice())?;
+    let time = event_time(bound, joining, key, value);
     last_time(joining.bound, left, time)
 }

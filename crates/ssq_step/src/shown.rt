@@ -64,12 +64,12 @@ impl Shown {
     }
 }
 
-/// Whether a key is the least, beside the least so far.
+/// Whether a key is less than the least so far. Where the two tie they are the same, so that none is copied again.
 fn is_least(key: &[Value], least: &Option<Row>) -> bool
     ensures { Some (lesser_key key.now least.now) ≡ (if result then Some key.now else least.now) }
 {
     match least {
-        Some(other) => !order_rows(key, other.as_slice()).is_gt(),
+        Some(other) => order_rows(key, other.as_slice()).is_lt(),
         None => true,
     }
 }

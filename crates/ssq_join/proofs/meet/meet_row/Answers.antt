@@ -11,7 +11,7 @@ use Rattle.ssq_step.specs.Rows.{IsKeptRow}
 use Rattle.ssq_join.specs.Judging.{is_met, judged_row}
 use Rattle.ssq_join.specs.Meeting.{are_near, joined}
 use Rattle.ssq_join.specs.Telling.{Tells, among}
-use Rattle.ssq_join.proofs.Partners.{is_kept_row, joined_fit, none_judged, none_met, one_met}
+use Rattle.ssq_join.proofs.Partners.{event_is_time, is_kept_row, joined_fit, none_judged, none_met, one_met}
 use Rattle.ssq_join.proofs.meet.meet_row.Goals as goal
 
 -- the row that is read is the one that is kept
@@ -34,11 +34,11 @@ returns-then-not-are_near-clause-meets c = λ other was pairs is meets.
     let query = c.args.bound.now in
     let joining = c.args.joining.now in
     let row = c.args.comer.row.now in
-    let left = c.in-Some.other.left in
-    let same = some_and_has (IsThat other was) c.in_ok-read.read c.in-Some.other c.in-Some.is
-    (c.in_ok-read.ensures.each (is_left other.stream) other.values was (is_kept_row query joining row other was c.args.key.now c.args.value.now is)) in
-    let far : are_near joining row left other.values ≡ false = ap (are_near joining row left) (sym same.1) ∙ sym c.are_near.ensures ∙ c.if-not-are_near.true in
-    none_met query joining row other was c.args.key.now c.args.value.now is pairs c.args.found.now c.args.met.now.keys (none_judged query joining row other was c.args.key.now c.args.value.now is left same.0 far) meets
+    let key = c.args.key.now in
+    let value = c.args.value.now in
+    let time = c.event_time-time.ensures.each (is_left other.stream) other.values was (is_kept_row query joining row other was key value is) ∙ event_is_time query joining row other was key value is in
+    let far : are_near joining row other.time ≡ false = ap (are_near joining row) (sym time) ∙ sym c.are_near.ensures ∙ c.if-not-are_near.true in
+    none_met query joining row other was key value is pairs c.args.found.now c.args.met.now.keys (none_judged query joining row other was key value is far) meets
 
 pub returns-clause-meets : goal.returns-clause-meets
 returns-clause-meets c = λ other was pairs is meets.
@@ -51,7 +51,8 @@ returns-clause-meets c = λ other was pairs is meets.
     let after = c.know.new.met.keys in
     let same = some_and_has (IsThat other was) c.in_ok-read.read c.in-Some.other c.in-Some.is
     (c.in_ok-read.ensures.each (is_left other.stream) other.values was (is_kept_row query joining row other was c.args.key.now c.args.value.now is)) in
-    let near : are_near joining row left other.values ≡ true = ap (are_near joining row left) (sym same.1) ∙ sym c.are_near.ensures ∙ c.if-not-are_near.false in
+    let time = c.event_time-time.ensures.each (is_left other.stream) other.values was (is_kept_row query joining row other was c.args.key.now c.args.value.now is) ∙ event_is_time query joining row other was c.args.key.now c.args.value.now is in
+    let near : are_near joining row other.time ≡ true = ap (are_near joining row) (sym time) ∙ sym c.are_near.ensures ∙ c.if-not-are_near.false in
     let values : c.as_slice.result.now ≡ joined left row.values other.values = c.as_slice.ensures.value ∙ c.in_ok-row.ensures ∙ (λ i. joined left (c.values.ensures i) (same.1 i)) in
     on_ok_weaker c.know.result
     (λ known.
