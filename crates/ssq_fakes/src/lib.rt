@@ -1,4 +1,4 @@
-//! The outside in memory, for tests: a disk, inputs, logs and an output that tell what they hold, each with a list
+//! The outside in memory, for tests and for generated input: a disk, inputs, logs and an output that tell what they hold, each with a list
 //! of calls that are to fail, and a gate that is open.
 //!
 //! An object without such a list never fails (`sure`, of the traits). A call that is to fail raises the object's
