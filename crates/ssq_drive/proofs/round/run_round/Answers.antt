@@ -1,4 +1,4 @@
-use Rattle.std.proofs.Common.{◌≡◌, ◌∙◌, ◌⊎◌, List, Option, sym, refl, ap, subst, length}
+use Rattle.std.proofs.Common.{◌≡◌, ◌∙◌, ◌⊎◌, List, Option, sym, refl, ap, subst, length, arith}
 use Rattle.std.specs.List.{AllZip, sum_by}
 use Rattle.ssq_outside.specs.declared.name.Name.{Name}
 use Rattle.ssq_shape.specs.Late.{closes}
@@ -130,7 +130,7 @@ returns-clause-round g c =
       faulty = done.ensures.faulty;
       good = λ t. c.finish.ensures.good t (c.turn.ensures.good t (c.loop-desk.invariant.good t (begun_good g.L.Log.lines round c.args.disk scope c.in-Ok.desk (g.D.Disk.faults c.args.disk) (g.D.Disk.faults c.in-Ok.desk.disk) c.requires.can.numbers.before c.requires.can.numbers.near c.in-Ok.ensures.made)));
     } in
-    round_closed g.D.Disk.tells g.L.Log.tells g.L.Log.lines g.D.Disk.history g.D.Disk.faults round scope c.args.disk desk done.result.disk refl c.requires.can driven done.ensures.disk counts done.result.told.items c.end_of.result closed
+    round_closed g.D.Disk.tells g.L.Log.tells g.L.Log.lines g.D.Disk.history g.D.Disk.faults round scope c.args.disk desk done.result.disk refl c.requires.can driven done.ensures.same done.ensures.counted counts done.result.told.items c.end_of.result closed
     (record {
       parts = c.job_is_wanted.ensures.parts;
       terms = c.tasks_have_terms.ensures.terms;
@@ -153,3 +153,10 @@ returns-clause-logs g c =
     let opened = ap (λ (x : Shown g.row.D.Denot (Round g.row.L.Denot)). x.opening.logs.items) driven.entries.1 in
     read_back g.L.Log.tells g.L.Log.lines g.L.Log.available g.L.Log.answers g.L.Log.faults c.args.logs.items c.closed-disk.result.logs.items
     (subst (λ (l : List g.row.L.Denot). AllZip (LogWent g.L.Log.tells g.L.Log.lines g.L.Log.available g.L.Log.answers g.L.Log.faults) l c.closed-disk.result.logs.items) opened c.closed-disk.ensures.logs)
+
+pub returns-clause-counted : goal.returns-clause-counted
+returns-clause-counted g c =
+    let begun = c.in-Ok.ensures.counted in
+    let driven = (driven_all g (goal.at.returns-clause-counted g c).After-finish).counted in
+    let closed = c.closed-disk.ensures.counted in
+    omega (arith, begun, driven, closed)
