@@ -64,8 +64,8 @@ turn-requires-clause-cap g c κs within =
 pub turn-requires-clause-rest : goal.turn-requires-clause-rest
 turn-requires-clause-rest g c κs within = c.loop-desk.invariant.driven.rest
 
-pub keep_between-requires : goal.keep_between-requires
-keep_between-requires g c = record { rest = (c.turn.ensures.done c.loop-desk-test.true).driven.rest }
+pub keep_between-requires-clause-rest : goal.keep_between-requires-clause-rest
+keep_between-requires-clause-rest g c κs within = (c.turn.ensures.done c.loop-desk-test.true).driven.rest
 
 pub loop-desk-preserved : goal.loop-desk-preserved
 loop-desk-preserved g c = record {
@@ -77,11 +77,11 @@ loop-desk-preserved g c = record {
 }
 
 pub finish-requires-clause-rest : goal.finish-requires-clause-rest
-finish-requires-clause-rest g c =
+finish-requires-clause-rest g c κs within =
     subst (λ (x : Shown g.row.D.Denot (Round g.row.L.Denot)). IsAtRest x.core) (sym (c.turn.ensures.end c.loop-desk-test.false).0) c.loop-desk.invariant.driven.rest
 
 pub finish-requires-clause-end : goal.finish-requires-clause-end
-finish-requires-clause-end g c =
+finish-requires-clause-end g c κs within =
     (let e = c.turn.ensures.end c.loop-desk-test.false in subst (λ (x : Shown g.row.D.Denot (Round g.row.L.Denot)). (ready_of x.scope x.core ≡ ready.Over) ⊎ (ready_of x.scope x.core ≡ ready.Stopped)) (sym e.0) e.1)
 
 -- the round's turns, and its end
