@@ -241,8 +241,9 @@ fn is_over(next: Ready, is_tidy: bool) -> bool
 }
 
 impl<'a, D: Disk, L: Log> Desk<'a, D, L> {
-    /// Ends the round, with all that it has: no task is with a worker any more. Files that were begun for tasks and are not to come are
-    /// taken away. It takes no memory.
+    /// Ends the round, with all that it has: no task is with a worker any more. It takes no memory.
+    ///
+    /// Files that were begun for tasks and are not to come are taken away. A commit that was sealed and not published stays aside.
     pub fn closed(self) -> Closed<D, L>
         requires back { (k : KindOf) → list_any is_away (tasks_of k self.core) ≡ false }
         ensures same { D.tells → D.history result.disk ≡ D.history self.entry.disk }
