@@ -100,7 +100,7 @@ pub struct Front {
     pub committed: u32,
     /// The plan of the epoch that runs is settled.
     pub fresh: bool,
-    /// No name was changed since the last sync.
+    /// No plan, delta, rows or commit was published since the last sync. What upkeep publishes and removes does not count here.
     pub settled: bool,
     /// The sink file of the epoch that runs is published.
     pub written: bool,

@@ -20,7 +20,7 @@ use ssq_terms::tasks_have_terms;
 use std::mem;
 
 impl<'a, D: Disk, L: Log> Desk<'a, D, L> {
-    /// Syncs names: the plan of the epoch that runs, its rows, or a commit.
+    /// Syncs names: the plan of the epoch that runs, its rows, a commit, or what upkeep changed.
     pub fn sync(&mut self) -> Result<(), Cause>
         requires { self.old.core.front.stop ≡ None }
         ensures done { OnOk result ((clock : _) × (self.new ≡ did self.old self.new.disk (entry.Sync clock ∷ []))) }

@@ -22,6 +22,7 @@ ghost use Rattle.ssq_desk.specs.Closing.{AreTold, IsNext, closings_in, stores_in
 
 use crate::desk::{Desk, Kept, Load, PartLog};
 use crate::keys::take_key;
+use crate::make::drop_files;
 use crate::told::Told;
 use ssq_board::{Cause, Entry, Front, Ready};
 use ssq_open::Opened;
@@ -241,9 +242,12 @@ fn is_over(next: Ready, is_tidy: bool) -> bool
 
 impl<'a, D: Disk, L: Log> Desk<'a, D, L> {
     /// Ends the round, with all that it has: no task is with a worker any more. It takes no memory.
+    ///
+    /// Files that were begun for tasks and are not to come are taken away. A commit that was sealed and not published stays aside.
     pub fn closed(self) -> Closed<D, L>
         requires back { (k : KindOf) → list_any is_away (tasks_of k self.core) ≡ false }
-        ensures disk { result.disk ≡ self.entry.disk }
+        ensures same { D.tells → D.history result.disk ≡ D.history self.entry.disk }
+        ensures counted { D.faults self.entry.disk ≤ D.faults result.disk }
         ensures history { result.history.items ≡ self.entry.history }
         ensures stop { result.stop ≡ self.entry.core.front.stop }
         ensures stopped { (f : CauseOf) → self.entry.core.front.stop ≡ Some f → IsStopOf (D.tells × L.tells) (Owns D.tells L.tells D.history L.lines self.entry) (setting_of L.lines self.entry.opening) (cuts_of (opening_in L.lines) self.entry) self.entry.core.front.committed result.key f }
@@ -260,13 +264,18 @@ impl<'a, D: Disk, L: Log> Desk<'a, D, L> {
         self.ledger.is_in_order();
         let is_over = is_over(self.ledger.ready(), self.ledger.is_tidy());
         let front = self.ledger.front();
-        let Desk { ledger, load, .. } = self;
+        let Desk {
+            mut ledger,
+            mut load,
+            ..
+        } = self;
+        let key = take_key(front.stop, &mut load.shares);
+        drop_files(&mut ledger, &mut load);
         let (disk, history, names) = ledger.closed();
         let Load {
             view,
             plans,
             part_logs,
-            mut shares,
             held,
             seen,
             told,
@@ -274,7 +283,6 @@ impl<'a, D: Disk, L: Log> Desk<'a, D, L> {
             ..
         } = load;
         let told = acknowledged(told, is_told(front));
-        let key = take_key(front.stop, &mut shares);
         let (next, logs) = next_if(
             is_over,
             kept,

@@ -72,7 +72,7 @@ use Rattle.ssq_drive.proofs.Uncommitted.{stop_uncommitted}
 use Rattle.ssq_drive.proofs.Parting.{begin_as_counted, start_is}
 use Rattle.ssq_drive.proofs.Saying.{told_are, told_from, told_good, told_meant, same_from}
 use Rattle.ssq_drive.proofs.Starting.{planned_found}
-use Rattle.ssq_drive.proofs.Stopping.{stop_is}
+use Rattle.ssq_drive.proofs.Stopping.{stop_is, stop_later}
 
 -- what a desk of a round shows in the end, and what it gives back
 pub record IsClosed {D L : Type 0} (stores logs : Type 0) (lines : L → List Line) (history : D → History) (faults : D → ℕ) (first : Shown D (Round L)) (log_faults : ℕ) (told : List Told) (end : Ended) (desk : Shown D (Round L)) : Type 0 where
@@ -559,13 +559,35 @@ round_is stores logs lines history faults round r disk now es can begin is quiet
     let fits = built_fits r (closes round.view.bound.now) (first_of round.opened) round.opened.plans _ _ next below in
     round_by stores logs lines history faults round r disk now es can begin is quiet back log_faults told (Err why) closed laws _ fits (λ other ends. absurd (err_ok why other ends))
 
--- how a round went, by its desk in the end
+-- how a round went, where the disk failed more often since, and where it tells, holds what it held
+round_later : (tells : Type 0) (s : Setting) (n : ℕ) (r : Scope) (found : Opened) (start now later : History) (disk before after logs : ℕ) (told : List Told) (end : Ended) → (tells → later ≡ now) → before ≤ after
+    → IsRound tells s n r found start now disk before logs told end → IsRound tells s n r found start later disk after logs told end
+round_later tells s n r found start now later disk before after logs told end same more round =
+    let went = round.went in
+    record {
+      plans = round.plans;
+      went = record {
+        on = went.on;
+        told_are = went.told_are;
+        good = went.good;
+        few = went.few;
+        near = went.near;
+        over = went.over;
+        stopped = λ why stops.
+            stop_later tells (tells × IsOwn s r start found) s (cut_of (first_of found) round.plans) r.available (length round.plans) (found.committed + length told) (files_now now) (files_now later) disk before after logs why.key why.cause (λ t. ap files_now (same t)) more (went.stopped why stops);
+        keyless = went.keyless;
+      };
+      ran = λ t own. subst (λ (h : History). RoundRan tells s r start h (cut_of (first_of found) round.plans) (length found.plans) found.committed (length round.plans) told end) (sym (same t)) (round.ran t own);
+    }
+
+-- how a round went, by its desk in the end, and by the disk that came back
 pub round_closed : {D L : Type 0} (stores logs : Type 0) (lines : L → List Line) (history : D → History) (faults : D → ℕ) (round : Round L) (r : Scope) (disk : D) (desk : Shown D (Round L)) (back : D)
-    → round.view.partitions ≡ round.opened.meta.partitions → CanBegin round.view.bound.now (length round.logs.items) round.opened r → IsDriven faults (HasDamaged stores logs history lines) (closes round.view.bound.now) (first_shown lines round disk r) desk → back ≡ desk.disk
+    → round.view.partitions ≡ round.opened.meta.partitions → CanBegin round.view.bound.now (length round.logs.items) round.opened r → IsDriven faults (HasDamaged stores logs history lines) (closes round.view.bound.now) (first_shown lines round disk r) desk
+    → (stores → history back ≡ history desk.disk) → faults desk.disk ≤ faults back
     → (log_faults : ℕ) (told : List Told) (end : Ended) → IsClosed stores logs lines history faults (first_shown lines round disk r) log_faults told end desk → HaveLaws (stores × logs)
     → IsRound (stores × logs) (setting_of lines round) (length round.logs.items) r round.opened (history disk) (history back) (faults disk) (faults back) log_faults told end
-round_closed stores logs lines history faults round r disk desk back same can driven is_back log_faults told end closed laws =
+round_closed stores logs lines history faults round r disk desk back same can driven kept more log_faults told end closed laws =
     let b = desk_begins lines round r same can in
-    subst (λ (d : _). IsRound (stores × logs) (setting_of lines round) (length round.logs.items) r round.opened (history disk) (history d) (faults disk) (faults d) log_faults told end) (sym is_back)
+    round_later (stores × logs) (setting_of lines round) (length round.logs.items) r round.opened (history disk) (history desk.disk) (history back) (faults disk) (faults desk.disk) (faults back) log_faults told end (λ t. kept t.0) more
     (round_is stores logs lines history faults round r disk desk.disk driven.entries.0 can b.0 b.1 driven.quiet driven.returned log_faults told end
     (subst (IsClosed stores logs lines history faults (first_shown lines round disk r) log_faults told end) driven.entries.1 closed) laws)

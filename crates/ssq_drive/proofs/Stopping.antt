@@ -1,6 +1,7 @@
 -- Why a round stopped, by its desk.
-use Rattle.std.proofs.Common.{◌≡◌, ◌⊎◌, ◌<◌, ◌≤◌, ℕ, true, List, IsSomeAnd, Option, Some, None, sym, refl, ap, ◌∙◌, subst}
+use Rattle.std.proofs.Common.{◌≡◌, ◌⊎◌, ◌<◌, ◌≤◌, ℕ, true, List, IsSomeAnd, Option, Some, None, sym, refl, ap, ◌∙◌, subst, arith}
 use Rattle.ssq_outside.specs.declared.name.Name.{Name}
+use Rattle.ssq_outside.specs.Faults.{Rises}
 use Rattle.ssq_outside.specs.Files.{Files}
 use Rattle.ssq_meaning.specs.Feeding.{LineAt}
 use Rattle.ssq_meaning.specs.Meaning.{Values}
@@ -54,3 +55,20 @@ stop_is tells owned P files s cuts others found planned committed e key disk dis
 stop_is tells owned P files s cuts others found planned committed e key disk disk_now logs r c cause.DiskFault same own why counts opened faulty full bad = counts
 stop_is tells owned P files s cuts others found planned committed e key disk disk_now logs r c cause.Full same own why counts opened faulty full bad = full counts
 stop_is tells owned P files s cuts others found planned committed e key disk disk_now logs r c cause.NoMemory same own why counts opened faulty full bad = tt
+
+-- why it stopped, where the disk failed more often since, and where it tells, holds what it held
+pub stop_later : (tells owned : Type 0) (s : Setting) (cuts : Cuts) (found : List ℕ) (planned e : ℕ) (files later : Files) (disk before after logs : ℕ) (key : Option Values) (f : Cause) → (tells → later ≡ files) → before ≤ after
+    → IsRoundStop tells owned s cuts found planned e files disk before logs key f → IsRoundStop tells owned s cuts found planned e later disk after logs key f
+stop_later tells owned s cuts found planned e files later disk before after logs key (cause.BadLine t p o x) same more why = why
+stop_later tells owned s cuts found planned e files later disk before after logs key (cause.Overflow t p o) same more why = why
+stop_later tells owned s cuts found planned e files later disk before after logs key cause.KeyOverflow same more why = why
+stop_later tells owned s cuts found planned e files later disk before after logs key cause.LogFault same more why = why
+stop_later tells owned s cuts found planned e files later disk before after logs key (cause.LogShort t p m n) same more why = why
+stop_later tells owned s cuts found planned e files later disk before after logs key (cause.Damaged q) same more why =
+    (why.0, λ t. subst (λ (image : Files). IsDamagedIn (keeping_of s.job.bound.shape s.job.partitions) e image q) (sym (same t)) (why.1 t))
+stop_later tells owned s cuts found planned e files later disk before after logs key cause.DiskFault same more why = risen more why
+  where
+    risen : before ≤ after → Rises disk before → Rises disk after
+    risen more rises = omega (arith, more, rises)
+stop_later tells owned s cuts found planned e files later disk before after logs key cause.Full same more why = why
+stop_later tells owned s cuts found planned e files later disk before after logs key cause.NoMemory same more why = tt

@@ -107,9 +107,9 @@ pub fn run_round<D: Disk, L: Log, G: Gate>(
         }
     };
     while turn(alloc, gate, &mut desk) {
-        keep_between(alloc, &mut desk);
+        keep_between(alloc, gate, &mut desk);
     }
-    finish(alloc, &mut desk);
+    finish(alloc, gate, &mut desk);
     desk.is_legal();
     desk.is_in_order();
     let Closed {

@@ -112,7 +112,7 @@ impl<D: Disk, O: Opening> Ledger<D, O> {
         }
     }
 
-    /// Syncs names: the plan of the epoch that runs, its rows, or a commit.
+    /// Syncs names: the plan of the epoch that runs, its rows, a commit, or what upkeep changed.
     pub fn sync(&mut self) -> Result<(), Cause>
         requires { self.old.core.front.stop ≡ None }
         ensures done { OnOk result ((clock : _) × (self.new ≡ did self.old self.new.disk (entry.Sync clock ∷ []))) }

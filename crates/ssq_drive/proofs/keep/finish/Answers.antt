@@ -6,7 +6,7 @@ use Rattle.ssq_drive.proofs.Tidying.{ended}
 use Rattle.ssq_drive.proofs.keep.finish.Goals as goal
 
 pub keep_up-requires-clause-between : goal.keep_up-requires-clause-between
-keep_up-requires-clause-between g c = inr (sym c.ready.ensures ∙ c.is_over.ensures.over c.if-is_over.true)
+keep_up-requires-clause-between g c κs within = inr (sym c.ready.ensures ∙ c.is_over.ensures.over c.if-is_over.true)
 
 pub returns-then-is_over-clause-driven : goal.returns-then-is_over-clause-driven
 returns-then-is_over-clause-driven g c = c.keep_up.ensures.kept.driven

@@ -7,7 +7,7 @@ use Rattle.ssq_drive.proofs.KeepLemmas.{left_kept, plan_between}
 use Rattle.ssq_drive.proofs.keep.keep_between.Goals as goal
 
 pub keep_up-requires-clause-between : goal.keep_up-requires-clause-between
-keep_up-requires-clause-between g c = inl (sym c.ready.ensures ∙ c.is_plan.ensures c.if-is_plan.true)
+keep_up-requires-clause-between g c κs within = inl (sym c.ready.ensures ∙ c.is_plan.ensures c.if-is_plan.true)
 
 pub returns-then-is_plan-clause-driven : goal.returns-then-is_plan-clause-driven
 returns-then-is_plan-clause-driven g c = c.keep_up.ensures.kept.driven

@@ -8,7 +8,7 @@ use Rattle.ssq_drive.proofs.Tidying.{all_running, all_upkept, keeps_on, last_kee
 use Rattle.ssq_drive.proofs.keep.keep_up.Goals as goal
 
 pub make_due-requires-clause-running : goal.make_due-requires-clause-running
-make_due-requires-clause-running g c =
+make_due-requires-clause-running g c κs within =
     (between_of c.args.desk.now.scope c.args.desk.now.core c.requires.between).running
 
 -- names are settled

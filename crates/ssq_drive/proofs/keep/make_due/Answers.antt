@@ -14,11 +14,11 @@ loop-init g c =
     record { making = record { kept = keeps_still g.D.Disk.faults (HasDamaged g.D.Disk.tells g.L.Log.tells g.D.Disk.history g.L.Log.lines) (closes c.args.desk.now.opening.view.bound.now) c.args.desk.now c.args.desk.now refl c.requires.rest; core = refl }; good = λ t good. good }
 
 pub make_next-requires-clause-running : goal.make_next-requires-clause-running
-make_next-requires-clause-running g c =
+make_next-requires-clause-running g c κs within =
     making_runs g.L.Log.lines g.D.Disk.faults (HasDamaged g.D.Disk.tells g.L.Log.tells g.D.Disk.history g.L.Log.lines) c.args.desk.now c.loop.desk c.loop.invariant.making c.requires.running
 
 pub make_next-requires-clause-rest : goal.make_next-requires-clause-rest
-make_next-requires-clause-rest g c =
+make_next-requires-clause-rest g c κs within =
     c.loop.invariant.making.kept.driven.rest
 
 pub loop-preserved : goal.loop-preserved

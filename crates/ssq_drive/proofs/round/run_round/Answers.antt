@@ -1,4 +1,4 @@
-use Rattle.std.proofs.Common.{◌≡◌, ◌∙◌, ◌⊎◌, List, Option, sym, refl, ap, subst, length}
+use Rattle.std.proofs.Common.{◌≡◌, ◌∙◌, ◌⊎◌, List, Option, sym, refl, ap, subst, length, arith}
 use Rattle.std.specs.List.{AllZip, sum_by}
 use Rattle.ssq_outside.specs.declared.name.Name.{Name}
 use Rattle.ssq_shape.specs.Late.{closes}
@@ -64,8 +64,8 @@ turn-requires-clause-cap g c κs within =
 pub turn-requires-clause-rest : goal.turn-requires-clause-rest
 turn-requires-clause-rest g c κs within = c.loop-desk.invariant.driven.rest
 
-pub keep_between-requires : goal.keep_between-requires
-keep_between-requires g c = record { rest = (c.turn.ensures.done c.loop-desk-test.true).driven.rest }
+pub keep_between-requires-clause-rest : goal.keep_between-requires-clause-rest
+keep_between-requires-clause-rest g c κs within = (c.turn.ensures.done c.loop-desk-test.true).driven.rest
 
 pub loop-desk-preserved : goal.loop-desk-preserved
 loop-desk-preserved g c = record {
@@ -77,11 +77,11 @@ loop-desk-preserved g c = record {
 }
 
 pub finish-requires-clause-rest : goal.finish-requires-clause-rest
-finish-requires-clause-rest g c =
+finish-requires-clause-rest g c κs within =
     subst (λ (x : Shown g.row.D.Denot (Round g.row.L.Denot)). IsAtRest x.core) (sym (c.turn.ensures.end c.loop-desk-test.false).0) c.loop-desk.invariant.driven.rest
 
 pub finish-requires-clause-end : goal.finish-requires-clause-end
-finish-requires-clause-end g c =
+finish-requires-clause-end g c κs within =
     (let e = c.turn.ensures.end c.loop-desk-test.false in subst (λ (x : Shown g.row.D.Denot (Round g.row.L.Denot)). (ready_of x.scope x.core ≡ ready.Over) ⊎ (ready_of x.scope x.core ≡ ready.Stopped)) (sym e.0) e.1)
 
 -- the round's turns, and its end
@@ -130,7 +130,7 @@ returns-clause-round g c =
       faulty = done.ensures.faulty;
       good = λ t. c.finish.ensures.good t (c.turn.ensures.good t (c.loop-desk.invariant.good t (begun_good g.L.Log.lines round c.args.disk scope c.in-Ok.desk (g.D.Disk.faults c.args.disk) (g.D.Disk.faults c.in-Ok.desk.disk) c.requires.can.numbers.before c.requires.can.numbers.near c.in-Ok.ensures.made)));
     } in
-    round_closed g.D.Disk.tells g.L.Log.tells g.L.Log.lines g.D.Disk.history g.D.Disk.faults round scope c.args.disk desk done.result.disk refl c.requires.can driven done.ensures.disk counts done.result.told.items c.end_of.result closed
+    round_closed g.D.Disk.tells g.L.Log.tells g.L.Log.lines g.D.Disk.history g.D.Disk.faults round scope c.args.disk desk done.result.disk refl c.requires.can driven done.ensures.same done.ensures.counted counts done.result.told.items c.end_of.result closed
     (record {
       parts = c.job_is_wanted.ensures.parts;
       terms = c.tasks_have_terms.ensures.terms;
@@ -153,3 +153,10 @@ returns-clause-logs g c =
     let opened = ap (λ (x : Shown g.row.D.Denot (Round g.row.L.Denot)). x.opening.logs.items) driven.entries.1 in
     read_back g.L.Log.tells g.L.Log.lines g.L.Log.available g.L.Log.answers g.L.Log.faults c.args.logs.items c.closed-disk.result.logs.items
     (subst (λ (l : List g.row.L.Denot). AllZip (LogWent g.L.Log.tells g.L.Log.lines g.L.Log.available g.L.Log.answers g.L.Log.faults) l c.closed-disk.result.logs.items) opened c.closed-disk.ensures.logs)
+
+pub returns-clause-counted : goal.returns-clause-counted
+returns-clause-counted g c =
+    let begun = c.in-Ok.ensures.counted in
+    let driven = (driven_all g (goal.at.returns-clause-counted g c).After-finish).counted in
+    let closed = c.closed-disk.ensures.counted in
+    omega (arith, begun, driven, closed)
