@@ -515,9 +515,8 @@ def wanted_files(epochs):
 
 
 def found_files(root):
-    """The files of a checkpoint, but for those that are written aside."""
-    paths = (path for path in root.rglob("*") if path.is_file() and path.parent.name != "aside")
-    return {str(path.relative_to(root)): path.read_bytes() for path in paths}
+    """The files of a checkpoint, with those that are left aside, which there are none of once a run has ended."""
+    return {str(path.relative_to(root)): path.read_bytes() for path in root.rglob("*") if path.is_file()}
 
 
 # ---- what is told of a query and its checkpoint
